@@ -1,0 +1,364 @@
+-- A board of bytes and a plain board that agree: they have equal views, and each accepted change keeps them in agreement.
+-- Assumes nothing.
+use Prim.Native.Nat.{ℕ, zero, suc, _+_, _*_, _-_, _≤_, _<_}
+use native.Mathlib.Nat.{suc-mul, not-suc-le-zero}
+use native.Mathlib.Omega.{arith}
+use mathlib.Core.Path.{_≡_, refl, sym, ap, ap₂, _∙_, fun-ext}
+use mathlib.Core.Bool.{Bool, true, false, cond, not, true≢false}
+use mathlib.Core.List.{List, [], _∷_, _++_}
+use lib.Dec.{leb, ltb, eqb}
+use borrow.Author.Tests.{leb-true, ltb-true, eqb-true, eq-eqb, ne-eqb, not-true}
+use lib.ListN.{length, getD, take, drop, length-append, length-drop, replicate, length-replicate, getD-replicate, take-append-drop, List·getD-append}
+use lib.Seq.{getD-drop, getD-take, getD-append-add, ext-getD}
+use Rattle.meaning.specs.Limits.{header, lastEdition, lastClosure}
+use Rattle.meaning.specs.Basics.{every, any, tabulate, put32, here, there}
+use Rattle.meaning.specs.Site.{Site}
+use Rattle.meaning.specs.Board.{free, stands, isHolder, boardLength, place, byteAt, edition, Pair, allFree, mark, clear, withEdition, nextEdition}
+use Rattle.meaning.specs.Calls.{bytesView}
+use Rattle.meaning.specs.PlainBoard.{Entry, Plain, emptyPlain, hasPair, taken, holderAt, plainFree, hasEntry, plainView, without, withEntry, cellsFrom, bytesOf}
+use Rattle.meaning.specs.Demands.{Has}
+use Rattle.meaning.proofs.BasicsLaws.{decide, every-at, every-nil, every-cons, all-head, all-tail, any-at, any-from, any-here, any-there, any-case, any-nil, same-test, u32-back, length-tabulate, tabulate-at}
+use Rattle.meaning.proofs.HolderLaws.{holders-right}
+use Rattle.meaning.proofs.BoardLaws.{place-in, pair-at, length-edition, byte-edition, InSite, in-site, length-mark, byte-mark, length-clear, byte-clear}
+
+-- ---- entries
+
+-- an entry's holder is one, it has a pair of the site, and shares no pair with the entries before it
+pub record Entered (site : Site) (e : Entry) (es : List Entry) : Type 0 where
+  pub known : isHolder (e .holder) ≡ true
+  pub cell : ℕ
+  pub tick : ℕ
+  pub cell-in : cell < site .cells
+  pub tick-in : tick ≤ site .horizon
+  pub has : hasPair (e .pairs) cell tick ≡ true
+  pub apart : (c t : ℕ) → hasPair (e .pairs) c t ≡ true → taken es c t ≡ false
+
+abbrev pub Clean : Site → List Entry → Type 0
+Clean site [] = Unit {0}
+Clean site (e ∷ es) = Entered site e es × Clean site es
+
+holder-pos : (h : ℕ) → isHolder h ≡ true → 1 ≤ h
+holder-pos h e = holders-right .holders h e .0
+
+-- the tests of one entry
+abbrev hasHere : ℕ → ℕ → Entry → Bool
+hasHere c t e = hasPair (e .pairs) c t
+
+abbrev isOf : ℕ → Entry → Bool
+isOf h e = eqb (e .holder) h
+
+module _ (site : Site) where
+  -- a pair is in no entry exactly when its holder is 0
+  free-holder : (es : List Entry) (c t : ℕ) → Clean site es → eqb (holderAt es c t) 0 ≡ not (taken es c t)
+  unfolding any
+  free-holder [] c t h = refl
+  free-holder (e ∷ es) c t (entered, clean) =
+      let pos : 1 ≤ e .holder = holder-pos (e .holder) (entered .known) in
+      decide (hasPair (e .pairs) c t)
+      (λ q. simp (q, ne-eqb (e .holder) 0 (omega arith)))
+      (λ q. simp q (free-holder es c t clean))
+
+  holder-none : (es : List Entry) (c t : ℕ) → Clean site es → taken es c t ≡ false → holderAt es c t ≡ 0
+  holder-none es c t clean h = eqb-true _ _ (free-holder es c t clean ∙ ap not h)
+
+  taken-some : (es : List Entry) (c t : ℕ) → Clean site es → 1 ≤ holderAt es c t → taken es c t ≡ true
+  taken-some es c t clean h =
+      decide (taken es c t) (λ q. q) (λ q. let z : holderAt es c t ≡ 0 = holder-none es c t clean q in absurd (omega arith))
+
+  -- a pair's holder has an entry, and who has an entry holds a pair
+  holder-entry : (es : List Entry) (c t h : ℕ) → holderAt es c t ≡ h → 1 ≤ h → hasEntry es h ≡ true
+  holder-entry [] c t h e pos = absurd (omega arith)
+  holder-entry (x ∷ es) c t h e pos =
+      decide (hasPair (x .pairs) c t)
+      (λ q. let same : x .holder ≡ h = simp q at e in any-here (isOf h) x es (eq-eqb (x .holder) h same))
+      (λ q. any-there (isOf h) x es (holder-entry es c t h (simp q at e) pos))
+
+  entry-holder : (es : List Entry) (h : ℕ) → Clean site es → 1 ≤ h → hasEntry es h ≡ true
+      → (c : ℕ) × (t : ℕ) × (c < site .cells) × (t ≤ site .horizon) × (holderAt es c t ≡ h)
+  entry-holder [] h clean pos e = absurd (true≢false (sym e ∙ any-nil (isOf h)))
+  entry-holder (x ∷ es) h (entered, clean) pos e =
+      any-case (isOf h) x es e
+      (λ q. (entered .cell, entered .tick, entered .cell-in, entered .tick-in, simp (entered .has) (eqb-true _ _ q)))
+      (λ q k.
+      let (c, t, hc, ht, same) = entry-holder es h clean pos k in
+      let there-too : taken es c t ≡ true = taken-some es c t clean (rw same pos) in (
+        c,
+        t,
+        hc,
+        ht,
+        decide (hasPair (x .pairs) c t)
+            (λ s. absurd (true≢false (sym there-too ∙ entered .apart c t s)))
+            (λ s. simp s same),
+      ))
+
+  -- whoever has an entry is a holder
+  entry-known : (es : List Entry) (h : ℕ) → Clean site es → hasEntry es h ≡ true → isHolder h ≡ true
+  entry-known [] h clean e = absurd (true≢false (sym e ∙ any-nil (isOf h)))
+  entry-known (x ∷ es) h (entered, clean) e =
+      any-case (isOf h) x es e
+      (λ q. ap isHolder (sym (eqb-true _ _ q)) ∙ entered .known)
+      (λ q k. entry-known es h clean k)
+
+-- ---- no two holders have the same cell on the same tick
+
+has-taken : (es : List Entry) (h c t : ℕ) → Has es h c t → taken es c t ≡ true
+has-taken (e ∷ es) h c t (here (same, k)) = any-here (hasHere c t) e es k
+has-taken (e ∷ es) h c t (there s) = any-there (hasHere c t) e es (has-taken es h c t s)
+
+pub no-two-in : (site : Site) (es : List Entry) → Clean site es → (h k c t : ℕ) → Has es h c t → Has es k c t → h ≡ k
+no-two-in site (e ∷ es) (entered, clean) h k c t (here (same, p)) (here (same-too, q)) = sym same ∙ same-too
+no-two-in site (e ∷ es) (entered, clean) h k c t (here (same, p)) (there s) = absurd (true≢false (sym (has-taken es k c t s) ∙ entered .apart c t p))
+no-two-in site (e ∷ es) (entered, clean) h k c t (there s) (here (same, p)) = absurd (true≢false (sym (has-taken es h c t s) ∙ entered .apart c t p))
+no-two-in site (e ∷ es) (entered, clean) h k c t (there s) (there r) = no-two-in site es clean h k c t s r
+
+-- and each of them is a holder
+pub known-in : (site : Site) (es : List Entry) → Clean site es → (h c t : ℕ) → Has es h c t → (1 ≤ h) × (h ≤ lastClosure)
+known-in site (e ∷ es) (entered, clean) h c t (here (same, p)) = holders-right .holders h (ap isHolder (sym same) ∙ entered .known)
+known-in site (e ∷ es) (entered, clean) h c t (there s) = known-in site es clean h c t s
+
+-- ---- a board of bytes and a plain board that agree
+
+pub record Agree (site : Site) (board : List ℕ) (p : Plain) : Type 0 where
+  pub sized : length board ≡ boardLength site
+  pub fits : p .edition ≤ lastEdition
+  pub front : take header board ≡ put32 (p .edition)
+  pub same-bytes : (c t : ℕ) → c < site .cells → t ≤ site .horizon → byteAt site board c t ≡ holderAt (p .entries) c t
+  pub clean : Clean site (p .entries)
+
+module _ (site : Site) (board : List ℕ) (p : Plain) (agree : Agree site board p) where
+  front-at : (i : ℕ) → i < header → getD board i 0 ≡ getD (put32 (p .edition)) i 0
+  front-at i lt = sym (getD-take header board i 0 lt) ∙ ap (λ (s : List ℕ). getD s i 0) (agree .front)
+
+  pub same-edition : edition board ≡ p .edition
+  same-edition =
+      simp (front-at 0 (omega arith), front-at 1 (omega arith), front-at 2 (omega arith), front-at 3 (omega arith))
+      (u32-back (p .edition) (omega (arith, agree .fits)))
+
+  same-free : free site board ≡ plainFree site (p .entries)
+  unfolding free plainFree every
+  same-free = fun-ext (λ c. fun-ext (λ t.
+      decide (ltb c (site .cells))
+      (λ hc. decide (leb t (site .horizon))
+      (λ ht. simp (agree .same-bytes c t (ltb-true _ _ hc) (leb-true _ _ ht), free-holder site (p .entries) c t (agree .clean)))
+      (λ ht. simp (hc, ht)))
+      (λ hc. simp hc)))
+
+  rest-size : length (drop header board) ≡ site .cells * (site .horizon + 1)
+  rest-size = length-drop header board ∙ ap (λ (n : ℕ). n - header) (agree .sized) ∙ omega arith
+
+  -- a holder's byte is an entry's
+  carried : (h : ℕ) → 1 ≤ h → any (λ (b : ℕ). eqb b h) (drop header board) ≡ true → hasEntry (p .entries) h ≡ true
+  carried h pos e =
+      let (i, lt, found) = any-at (λ (b : ℕ). eqb b h) (drop header board) 0 e in
+      let (c, t, hc, ht, same) = pair-at site i (omega (arith, rest-size)) in
+      let byte : byteAt site board c t ≡ h =
+      ap (λ (j : ℕ). getD board j 0) same ∙ sym (getD-drop header board i 0) ∙ eqb-true _ _ found in
+      holder-entry site (p .entries) c t h (sym (agree .same-bytes c t hc ht) ∙ byte) pos
+
+  entry-carried : (h : ℕ) → 1 ≤ h → hasEntry (p .entries) h ≡ true → any (λ (b : ℕ). eqb b h) (drop header board) ≡ true
+  entry-carried h pos e =
+      let (c, t, hc, ht, same) = entry-holder site (p .entries) h (agree .clean) pos e in
+      let j : ℕ = c * (site .horizon + 1) + t in
+      let inside : place site c t < boardLength site = place-in site c t hc ht in
+      let index : header + j ≡ place site c t = omega arith in
+      let byte : getD (drop header board) j 0 ≡ h =
+      getD-drop header board j 0 ∙ ap (λ (i : ℕ). getD board i 0) index ∙ agree .same-bytes c t hc ht ∙ same in
+      any-from (λ (b : ℕ). eqb b h) (drop header board) 0 j (omega (arith, rest-size)) (eq-eqb _ _ byte)
+
+  same-stands : stands board ≡ hasEntry (p .entries)
+  unfolding stands
+  same-stands = fun-ext (λ h. same-test _ _
+      (λ e. carried h (holder-pos h (every-at _ e 0)) (every-at _ e 1))
+      (λ e.
+      let known : isHolder h ≡ true = entry-known site (p .entries) h (agree .clean) e in
+      every-cons _ _ known (every-cons _ _ (entry-carried h (holder-pos h known) e) every-nil)))
+
+  -- so the refusals read the same of both
+  pub same-view : bytesView site board ≡ plainView site p
+  unfolding bytesView plainView
+  same-view = λ i. record { edition = same-edition i; stands = same-stands i; free = same-free i }
+
+-- ---- the board's bytes are those of the plain board
+
+module _ (site : Site) (es : List Entry) where
+  length-cells : (c n : ℕ) → length (cellsFrom site es c n) ≡ n * (site .horizon + 1)
+  length-cells c zero = omega arith
+  length-cells c (suc n) =
+      let ih : length (cellsFrom site es (suc c) n) ≡ n * (site .horizon + 1) = length-cells (suc c) n in
+      let row : length (tabulate (holderAt es c) 0 (suc (site .horizon))) ≡ suc (site .horizon) = length-tabulate (holderAt es c) 0 (suc (site .horizon)) in
+      let more : suc n * (site .horizon + 1) ≡ n * (site .horizon + 1) + (site .horizon + 1) = suc-mul n (site .horizon + 1) in
+      length-append (tabulate (holderAt es c) 0 (suc (site .horizon))) (cellsFrom site es (suc c) n) ∙ omega arith
+
+  cells-at : (c n j t : ℕ) → j < n → t ≤ site .horizon → getD (cellsFrom site es c n) (j * (site .horizon + 1) + t) 0 ≡ holderAt es (c + j) t
+  cells-at c zero j t lt le = absurd (not-suc-le-zero lt)
+  cells-at c (suc n) zero t lt le =
+      let row : List ℕ = tabulate (holderAt es c) 0 (suc (site .horizon)) in
+      let size : length row ≡ suc (site .horizon) = length-tabulate (holderAt es c) 0 (suc (site .horizon)) in
+      let index : zero * (site .horizon + 1) + t ≡ t = omega arith in
+      let same : c ≡ c + zero = omega arith in
+      ap (λ (i : ℕ). getD (row ++ cellsFrom site es (suc c) n) i 0) index
+      ∙ List·getD-append row (cellsFrom site es (suc c) n) 0 t (omega arith)
+      ∙ tabulate-at (holderAt es c) 0 (suc (site .horizon)) t (omega arith)
+      ∙ ap (λ (x : ℕ). holderAt es x t) same
+  cells-at c (suc n) (suc j) t lt le =
+      let row : List ℕ = tabulate (holderAt es c) 0 (suc (site .horizon)) in
+      let size : length row ≡ suc (site .horizon) = length-tabulate (holderAt es c) 0 (suc (site .horizon)) in
+      let more : suc j * (site .horizon + 1) ≡ j * (site .horizon + 1) + (site .horizon + 1) = suc-mul j (site .horizon + 1) in
+      let index : suc j * (site .horizon + 1) + t ≡ length row + (j * (site .horizon + 1) + t) = omega arith in
+      let same : suc c + j ≡ c + suc j = omega arith in
+      ap (λ (i : ℕ). getD (row ++ cellsFrom site es (suc c) n) i 0) index
+      ∙ getD-append-add row (cellsFrom site es (suc c) n) (j * (site .horizon + 1) + t) 0
+      ∙ cells-at (suc c) n j t (omega arith) le
+      ∙ ap (λ (x : ℕ). holderAt es x t) same
+
+module _ (site : Site) (board : List ℕ) (p : Plain) (agree : Agree site board p) where
+  rest-cells : drop header board ≡ cellsFrom site (p .entries) 0 (site .cells)
+  rest-cells =
+      let size : length (drop header board) ≡ site .cells * (site .horizon + 1) = rest-size site board p agree in
+      ext-getD 0 (drop header board) (cellsFrom site (p .entries) 0 (site .cells)) (size ∙ sym (length-cells site (p .entries) 0 (site .cells)))
+      (λ i lt.
+      let (c, t, hc, ht, same) = pair-at site i (omega arith) in
+      let index : i ≡ c * (site .horizon + 1) + t = omega arith in
+      let from-0 : 0 + c ≡ c = omega arith in
+      getD-drop header board i 0
+      ∙ ap (λ (j : ℕ). getD board j 0) (sym same)
+      ∙ agree .same-bytes c t hc ht
+      ∙ sym (ap (λ (j : ℕ). getD (cellsFrom site (p .entries) 0 (site .cells)) j 0) index
+      ∙ cells-at site (p .entries) 0 (site .cells) c t hc ht
+      ∙ ap (λ (x : ℕ). holderAt (p .entries) x t) from-0))
+
+  pub board-bytes : board ≡ bytesOf site p
+  unfolding bytesOf
+  board-bytes = sym (take-append-drop header board) ∙ ap₂ {C = List ℕ} (λ x y. x ++ y) (agree .front) rest-cells
+
+-- ---- an opened board
+
+pub opened-agrees : (site : Site) (n : ℕ) → n ≡ boardLength site → Agree site (replicate n 0) emptyPlain
+opened-agrees site n size = record {
+  sized = length-replicate {A = ℕ} n 0 ∙ size;
+  fits = omega arith;
+  front = let four-more : n ≡ suc (suc (suc (suc (site .cells * (site .horizon + 1))))) = omega arith in rw four-more;
+  same-bytes = λ c t hc ht. let inside : place site c t < boardLength site = place-in site c t hc ht in getD-replicate n (place site c t) 0 0 (omega arith);
+  clean = tt;
+}
+
+-- ---- a new entry
+
+module _ (site : Site) (es : List Entry) where
+  free-in : (ps : List Pair) → allFree (plainFree site es) ps ≡ true → InSite site ps
+  unfolding plainFree
+  free-in ps h = in-site site (plainFree site es) (λ c t e. every-cons _ _ (every-at _ e 0) (every-cons _ _ (every-at _ e 1) every-nil)) ps h
+
+  free-apart : (ps : List Pair) → allFree (plainFree site es) ps ≡ true → (c t : ℕ) → hasPair ps c t ≡ true → taken es c t ≡ false
+  unfolding plainFree
+  free-apart [] h c t e = absurd (true≢false (sym e ∙ any-nil (λ (p : Pair). every (eqb (p .cell) c ∷ eqb (p .tick) t ∷ []))))
+  free-apart (q ∷ ps) h c t e =
+      let this : plainFree site es (q .cell) (q .tick) ≡ true = all-head (λ (x : Pair). plainFree site es (x .cell) (x .tick)) q ps h in
+      any-case (λ (p : Pair). every (eqb (p .cell) c ∷ eqb (p .tick) t ∷ [])) q ps e
+      (λ s. sym (ap₂ (taken es) (eqb-true _ _ (every-at _ s 0)) (eqb-true _ _ (every-at _ s 1))) ∙ not-true _ (every-at _ this 2))
+      (λ s k. free-apart ps (all-tail (λ (x : Pair). plainFree site es (x .cell) (x .tick)) q ps h) c t k)
+
+-- a board with the next edition, given its length and bytes
+module _ (site : Site) (board : List ℕ) (p : Plain) (agree : Agree site board p) (early : edition board ≡ lastEdition → ⊥) (new : List ℕ) (es : List Entry) where
+  stepped : length new ≡ length board
+      → ((c t : ℕ) → c < site .cells → t ≤ site .horizon → byteAt site new c t ≡ holderAt es c t)
+      → Clean site es
+      → Agree site (nextEdition board new) (record { edition = p .edition + 1; entries = es })
+  unfolding nextEdition withEdition
+  stepped size bytes clean =
+      let now-edition : edition board ≡ p .edition = same-edition site board p agree in
+      let most : p .edition ≤ lastEdition = agree .fits in
+      let sized : length new ≡ boardLength site = size ∙ agree .sized in
+      record {
+        sized = length-edition site (edition board + 1) new sized ∙ sized;
+        fits = omega arith;
+        front = ap (λ (n : ℕ). put32 (n + 1)) now-edition;
+        same-bytes = λ c t hc ht. byte-edition site (edition board + 1) new c t ∙ bytes c t hc ht;
+        clean = clean;
+      }
+
+module _ (site : Site) (board : List ℕ) (p : Plain) (agree : Agree site board p) (early : edition board ≡ lastEdition → ⊥) where
+  pub entered : (h : ℕ) → isHolder h ≡ true → (q : Pair) (ps : List Pair) → allFree (plainFree site (p .entries)) (q ∷ ps) ≡ true
+      → Agree site (nextEdition board (mark site h (q ∷ ps) board)) (withEntry p h (q ∷ ps))
+  entered h known q ps ok =
+      let marked : List ℕ = mark site h (q ∷ ps) board in
+      let inside : InSite site (q ∷ ps) = free-in site (p .entries) (q ∷ ps) ok in
+      let first-in : every (ltb (q .cell) (site .cells) ∷ leb (q .tick) (site .horizon) ∷ []) ≡ true =
+      all-head (λ (x : Pair). every (ltb (x .cell) (site .cells) ∷ leb (x .tick) (site .horizon) ∷ [])) q ps inside in
+      let entry : Entered site (record { holder = h; pairs = q ∷ ps }) (p .entries) = record {
+        known = known;
+        cell = q .cell;
+        tick = q .tick;
+        cell-in = ltb-true _ _ (every-at _ first-in 0);
+        tick-in = leb-true _ _ (every-at _ first-in 1);
+        has = any-here (λ (x : Pair). every (eqb (x .cell) (q .cell) ∷ eqb (x .tick) (q .tick) ∷ [])) q ps
+            (every-cons _ _ (eq-eqb (q .cell) (q .cell) refl) (every-cons _ _ (eq-eqb (q .tick) (q .tick) refl) every-nil));
+        apart = free-apart site (p .entries) (q ∷ ps) ok;
+      } in
+      stepped site board p agree early marked (record { holder = h; pairs = q ∷ ps } ∷ p .entries)
+      (length-mark site h (q ∷ ps) board)
+      (λ c t hc ht.
+      byte-mark site h (q ∷ ps) board c t inside (agree .sized) hc ht
+      ∙ ap (λ (n : ℕ). cond (hasPair (q ∷ ps) c t) h n) (agree .same-bytes c t hc ht))
+      (entry, agree .clean)
+
+-- ---- a holder's entries removed
+
+module _ (site : Site) (h : ℕ) where
+  taken-without : (es : List Entry) (c t : ℕ) → taken es c t ≡ false → taken (without h es) c t ≡ false
+  unfolding any
+  taken-without [] c t e = refl
+  taken-without (x ∷ es) c t e =
+      decide (hasPair (x .pairs) c t)
+      (λ q. absurd (true≢false (simp q at e)))
+      (λ q.
+      let ih : taken (without h es) c t ≡ false = taken-without es c t (simp q at e) in
+      decide (eqb (x .holder) h) (λ s. simp s ih) (λ s. simp (s, q) ih))
+
+  clean-without : (es : List Entry) → Clean site es → Clean site (without h es)
+  clean-without [] clean = tt
+  clean-without (x ∷ es) (e, clean) =
+      decide (eqb (x .holder) h)
+      (λ s. simp s (clean-without es clean))
+      (λ s. simp s (
+        record {
+          known = e .known;
+          cell = e .cell;
+          tick = e .tick;
+          cell-in = e .cell-in;
+          tick-in = e .tick-in;
+          has = e .has;
+          apart = λ c t q. taken-without es c t (e .apart c t q);
+        },
+        clean-without es clean,
+      ))
+
+  holder-without : (es : List Entry) (c t : ℕ) → Clean site es
+      → holderAt (without h es) c t ≡ cond (eqb (holderAt es c t) h) 0 (holderAt es c t)
+  holder-without [] c t clean = sym (cond-same (eqb 0 h))
+    where
+      cond-same : (b : Bool) → _≡_ {A = ℕ} (cond b 0 0) 0
+      cond-same true = refl
+      cond-same false = refl
+  holder-without (x ∷ es) c t (e, clean) =
+      let ih : holderAt (without h es) c t ≡ cond (eqb (holderAt es c t) h) 0 (holderAt es c t) = holder-without es c t clean in
+      decide (eqb (x .holder) h)
+      (λ s. decide (hasPair (x .pairs) c t)
+      (λ q.
+      let gone : holderAt (without h es) c t ≡ 0 = holder-none site (without h es) c t (clean-without es clean) (taken-without es c t (e .apart c t q)) in
+      simp (s, q) gone)
+      (λ q. simp (s, q) ih))
+      (λ s. decide (hasPair (x .pairs) c t)
+      (λ q. simp (s, q))
+      (λ q. simp (s, q) ih))
+
+module _ (site : Site) (board : List ℕ) (p : Plain) (agree : Agree site board p) (early : edition board ≡ lastEdition → ⊥) where
+  pub released : (h : ℕ) → Agree site (nextEdition board (clear h board)) (record { edition = p .edition + 1; entries = without h (p .entries) })
+  released h =
+      stepped site board p agree early (clear h board) (without h (p .entries))
+      (length-clear site h board)
+      (λ c t hc ht.
+      byte-clear site h board c t (agree .sized)
+      ∙ ap (λ (n : ℕ). cond (eqb n h) 0 n) (agree .same-bytes c t hc ht)
+      ∙ sym (holder-without site h (p .entries) c t (agree .clean)))
+      (clean-without site h (p .entries) (agree .clean))

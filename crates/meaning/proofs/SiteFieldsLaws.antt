@@ -1,0 +1,268 @@
+-- The fields of a site file, one by one: what is read from each is written back, and what is written is read back.
+-- Assumes nothing.
+use Prim.Native.Nat.{ℕ, zero, suc, _+_, _*_, _-_, _/_, _%_, _≤_, _<_, suc-le-suc}
+use native.Mathlib.Omega.{arith}
+use mathlib.Core.Path.{_≡_, refl, ap, ap₂}
+use mathlib.Core.Bool.{true, _&&_, false≢true}
+use mathlib.Core.List.{List, [], _∷_, _++_, map}
+use lib.ListN.{length, getD, take, drop, length-drop}
+use lib.Dec.{leb, eqb}
+use borrow.Author.Tests.{leb-true, le-leb, eqb-true, eq-eqb}
+use Rattle.meaning.specs.Limits.{horizonLimit, cellLimit, stateLimit, motionLimit, sweepLimit}
+use Rattle.meaning.specs.Limits.{headTag, stateTag, motionTag, headSize, stateSize, motionSize, sweepSize}
+use Rattle.meaning.specs.Basics.{all, within, Each, Bytes, u16At}
+use Rattle.meaning.specs.Fields.{Field, noField}
+use Rattle.meaning.specs.Site.{State, Sweep, Motion, Site, sweepsOf, stateOf, motionOf, headGood, isState, sweepCount, isMotion, motionsLaid, layoutGood}
+use Rattle.meaning.specs.WellFormed.{WellFormed, stateField, sweepBytes, motionField, headField}
+use Rattle.meaning.proofs.BasicsLaws.{and-left, and-right, all-each, each-all, within-range, range-within, u16-back, u16-bytes}
+use Rattle.meaning.proofs.FieldsLaws.{field-is, list-of, byte-at}
+use Rattle.meaning.proofs.MotionLaws.{and-three}
+
+-- ---- a property of every element of a list
+
+-- a list that is mapped and mapped back
+pub map-back : {A B : Type 0} (P : A → Type 0) (f : A → B) (g : B → A) → ((x : A) → P x → g (f x) ≡ x)
+    → (xs : List A) → Each P xs → map g (map f xs) ≡ xs
+map-back P f g back [] h = refl
+map-back {A} P f g back (x ∷ xs) (h, hs) = ap₂ {C = List A} (λ y ys. y ∷ ys) (back x h) (map-back P f g back xs hs)
+
+pub each-mapped : {A B : Type 0} (P : A → Type 0) (Q : B → Type 0) (f : A → B) → ((x : A) → P x → Q (f x))
+    → (xs : List A) → Each P xs → Each Q (map f xs)
+each-mapped P Q f to [] h = tt
+each-mapped P Q f to (x ∷ xs) (h, hs) = (to x h, each-mapped P Q f to xs hs)
+
+pub each-joined : {A : Type 0} (P : A → Type 0) (xs ys : List A) → Each P xs → Each P ys → Each P (xs ++ ys)
+each-joined P [] ys h k = k
+each-joined P (x ∷ xs) ys (h, hs) k = (h, each-joined P xs ys hs k)
+
+pub each-drop : {A : Type 0} (P : A → Type 0) (n : ℕ) (xs : List A) → Each P xs → Each P (drop n xs)
+each-drop P zero xs h = h
+each-drop P (suc n) [] h = tt
+each-drop P (suc n) (x ∷ xs) (h, hs) = each-drop P n xs hs
+
+pub each-both : {A : Type 0} (P Q : A → Type 0) (xs : List A) → Each P xs → Each Q xs → Each (λ (x : A). P x × Q x) xs
+each-both P Q [] h k = tt
+each-both P Q (x ∷ xs) (h, hs) (k, ks) = ((h, k), each-both P Q xs hs ks)
+
+-- ---- bytes by place
+
+first-five : (v : List ℕ) → 5 ≤ length v → v ≡ getD v 0 0 ∷ getD v 1 0 ∷ getD v 2 0 ∷ getD v 3 0 ∷ getD v 4 0 ∷ drop 5 v
+first-five [] h = absurd (omega arith)
+first-five (a ∷ []) h = absurd (omega arith)
+first-five (a ∷ b ∷ []) h = absurd (omega arith)
+first-five (a ∷ b ∷ c ∷ []) h = absurd (omega arith)
+first-five (a ∷ b ∷ c ∷ d ∷ []) h = absurd (omega arith)
+first-five (a ∷ b ∷ c ∷ d ∷ e ∷ v) h = refl
+
+-- two bytes of a list are those of the number that they make
+two-bytes : (v : List ℕ) → Bytes v → (i : ℕ) → (u16At v i / 256 % 256 ≡ getD v i 0) × (u16At v i % 256 ≡ getD v (i + 1) 0)
+two-bytes v h i = u16-bytes (getD v i 0) (getD v (i + 1) 0) (byte-at v h i) (byte-at v h (i + 1))
+
+-- ---- sweeps
+
+sweeps-count : (n : ℕ) (s : List ℕ) → length s ≡ 3 * n → length (sweepsOf s) ≡ n
+unfolding sweepsOf
+sweeps-count zero [] h = refl
+sweeps-count zero (c ∷ s) h = absurd (omega arith)
+sweeps-count (suc n) [] h = absurd (omega arith)
+sweeps-count (suc n) (c ∷ []) h = absurd (omega arith)
+sweeps-count (suc n) (c ∷ a ∷ []) h = absurd (omega arith)
+sweeps-count (suc n) (c ∷ a ∷ b ∷ s) h = ap suc (sweeps-count n s (omega arith))
+
+sweeps-written : (n : ℕ) (s : List ℕ) → length s ≡ 3 * n → sweepBytes (sweepsOf s) ≡ s
+unfolding sweepsOf
+sweeps-written zero [] h = refl
+sweeps-written zero (c ∷ s) h = absurd (omega arith)
+sweeps-written (suc n) [] h = absurd (omega arith)
+sweeps-written (suc n) (c ∷ []) h = absurd (omega arith)
+sweeps-written (suc n) (c ∷ a ∷ []) h = absurd (omega arith)
+sweeps-written (suc n) (c ∷ a ∷ b ∷ s) h = ap {B = List ℕ} (λ r. c ∷ a ∷ b ∷ r) (sweeps-written n s (omega arith))
+
+sweeps-read : (ws : List Sweep) → sweepsOf (sweepBytes ws) ≡ ws
+unfolding sweepsOf
+sweeps-read [] = refl
+sweeps-read (w ∷ ws) = ap {B = List Sweep} (λ r. w ∷ r) (sweeps-read ws)
+
+sweep-bytes-length : (ws : List Sweep) → length (sweepBytes ws) ≡ 3 * length ws
+sweep-bytes-length [] = refl
+sweep-bytes-length (w ∷ ws) = let e = sweep-bytes-length ws in omega arith
+
+-- ---- one state
+
+abbrev pub IsState : Field → Type 0
+IsState f = isState f ≡ true
+
+state-parts : (f : Field) → IsState f → (f .tag ≡ stateTag) × (length (f .value) ≡ stateSize)
+unfolding isState
+state-parts f h = (
+  eqb-true (f .tag) stateTag (and-left (eqb (f .tag) stateTag) (eqb (length (f .value)) stateSize) h),
+  eqb-true (length (f .value)) stateSize (and-right (eqb (f .tag) stateTag) (eqb (length (f .value)) stateSize) h),
+)
+
+pub state-written : (f : Field) → IsState f → stateField (stateOf f) ≡ f
+unfolding stateOf
+state-written f h =
+    let (t, l) = state-parts f h in
+    field-is f _ _ t (list-of (f .value) stateSize l)
+
+pub state-read : (s : State) → stateOf (stateField s) ≡ s
+unfolding stateOf
+state-read s = refl
+
+pub state-made : (s : State) → isState (stateField s) ≡ true
+unfolding isState
+state-made s = refl
+
+-- ---- one motion
+
+abbrev pub IsMotion : Field → Type 0
+IsMotion f = isMotion f ≡ true
+
+pub motion-parts : (f : Field) → IsMotion f
+    → (f .tag ≡ motionTag) × (1 ≤ sweepCount (length (f .value))) × (sweepCount (length (f .value)) ≤ sweepLimit)
+    × (length (f .value) ≡ motionSize + sweepSize * sweepCount (length (f .value)))
+unfolding isMotion
+motion-parts f h =
+    let n = sweepCount (length (f .value)) in
+    let (x, y, z) = and-three (eqb (f .tag) motionTag) (within 1 sweepLimit n) (eqb (length (f .value)) (motionSize + sweepSize * n)) h in
+    let (least, most) = within-range 1 sweepLimit n y in
+    (eqb-true (f .tag) motionTag x, least, most, eqb-true (length (f .value)) (motionSize + sweepSize * n) z)
+
+pub motion-written : (f : Field) → IsMotion f → Bytes (f .value) → motionField (motionOf f) ≡ f
+unfolding motionOf
+motion-written f h bytes =
+    let v = f .value in
+    let n = sweepCount (length v) in
+    let (t, _, _, l) = motion-parts f h in
+    let rest = length-drop 5 v in
+    let (a, b) = two-bytes v bytes 0 in
+    let (c, d) = two-bytes v bytes 2 in
+    let ws : sweepBytes (sweepsOf (drop 5 v)) ≡ drop 5 v = sweeps-written n (drop 5 v) (omega arith) in
+    field-is f _ _ t (rw (a, b, c, d, ws) (first-five v (omega arith)))
+
+pub motion-sweeps : (f : Field) → IsMotion f → length (motionOf f .sweeps) ≡ sweepCount (length (f .value))
+unfolding motionOf
+motion-sweeps f h =
+    let (_, _, _, l) = motion-parts f h in
+    let rest = length-drop 5 (f .value) in
+    sweeps-count (sweepCount (length (f .value))) (drop 5 (f .value)) (omega arith)
+
+pub motion-read : (m : Motion) → m .from < 65536 → m .to < 65536 → motionOf (motionField m) ≡ m
+unfolding motionOf
+motion-read m p q =
+    let from-back = u16-back (m .from) p in
+    let to-back = u16-back (m .to) q in
+    let sweeps-back = sweeps-read (m .sweeps) in
+    λ i. record { from = from-back i; to = to-back i; span = m .span; sweeps = sweeps-back i }
+
+pub motion-size : (m : Motion) → length (motionField m .value) ≡ motionSize + sweepSize * length (m .sweeps)
+motion-size m = let e = sweep-bytes-length (m .sweeps) in omega arith
+
+pub motion-made : (m : Motion) → 1 ≤ length (m .sweeps) → length (m .sweeps) ≤ sweepLimit → isMotion (motionField m) ≡ true
+unfolding isMotion sweepCount
+motion-made m p q =
+    let e = motion-size m in
+    let n = length (m .sweeps) in
+    let count : (motionSize + sweepSize * n - motionSize) / sweepSize ≡ n = omega arith in
+    rw (e, count, range-within 1 sweepLimit n p q) (eq-eqb (motionSize + sweepSize * n) (motionSize + sweepSize * n) refl)
+
+-- ---- the layout
+
+pub layout-states : (n : ℕ) (fs : List Field) → layoutGood n fs ≡ true → Each IsState (take n fs)
+unfolding layoutGood
+layout-states zero fs h = tt
+layout-states (suc n) [] h = absurd (false≢true h)
+layout-states (suc n) (f ∷ fs) h = (and-left (isState f) (layoutGood n fs) h, layout-states n fs (and-right (isState f) (layoutGood n fs) h))
+
+pub layout-enough : (n : ℕ) (fs : List Field) → layoutGood n fs ≡ true → n ≤ length fs
+unfolding layoutGood
+layout-enough zero fs h = omega arith
+layout-enough (suc n) [] h = absurd (false≢true h)
+layout-enough (suc n) (f ∷ fs) h = suc-le-suc (layout-enough n fs (and-right (isState f) (layoutGood n fs) h))
+
+pub layout-motions : (n : ℕ) (fs : List Field) → layoutGood n fs ≡ true → motionsLaid (drop n fs) ≡ true
+unfolding layoutGood
+layout-motions zero fs h = h
+layout-motions (suc n) [] h = absurd (false≢true h)
+layout-motions (suc n) (f ∷ fs) h = layout-motions n fs (and-right (isState f) (layoutGood n fs) h)
+
+pub laid-out : (ss ms : List Field) → Each IsState ss → motionsLaid ms ≡ true → layoutGood (length ss) (ss ++ ms) ≡ true
+unfolding layoutGood
+laid-out [] ms h k = k
+laid-out (s ∷ ss) ms (h, hs) k = simp (h, laid-out ss ms hs k)
+
+pub motions-laid : (ms : List Field) → motionsLaid ms ≡ true → Each IsMotion ms × (length ms ≤ motionLimit)
+unfolding motionsLaid
+motions-laid ms h = (
+  all-each IsMotion isMotion (λ f e. e) ms (and-left (all isMotion ms) (leb (length ms) motionLimit) h),
+  leb-true (length ms) motionLimit (and-right (all isMotion ms) (leb (length ms) motionLimit) h),
+)
+
+pub laid-motions : (ms : List Field) → Each IsMotion ms → length ms ≤ motionLimit → motionsLaid ms ≡ true
+unfolding motionsLaid
+laid-motions ms h k = simp (each-all IsMotion isMotion (λ f e. e) ms h, le-leb (length ms) motionLimit k)
+
+-- ---- the head
+
+pub record GoodHead (f : Field) : Type 0 where
+  pub tag-right : f .tag ≡ headTag
+  pub size-right : length (f .value) ≡ headSize
+  pub horizon-range : (1 ≤ u16At (f .value) 0) × (u16At (f .value) 0 ≤ horizonLimit)
+  pub cells-range : (1 ≤ getD (f .value) 2 0) × (getD (f .value) 2 0 ≤ cellLimit)
+  pub states-range : (1 ≤ u16At (f .value) 3) × (u16At (f .value) 3 ≤ stateLimit)
+
+pub head-good : (f : Field) → headGood f ≡ true → GoodHead f
+unfolding headGood
+head-good f h =
+    let v = f .value in
+    let a = eqb (f .tag) headTag in
+    let b = eqb (length v) headSize in
+    let c = within 1 horizonLimit (u16At v 0) in
+    let d = within 1 cellLimit (getD v 2 0) in
+    let e = within 1 stateLimit (u16At v 3) in
+    let (x, y, z) = and-three a b c (and-left (a && b && c) d (and-left (a && b && c && d) e h)) in
+    record {
+      tag-right = eqb-true (f .tag) headTag x;
+      size-right = eqb-true (length v) headSize y;
+      horizon-range = within-range 1 horizonLimit (u16At v 0) z;
+      cells-range = within-range 1 cellLimit (getD v 2 0) (and-right (a && b && c) d (and-left (a && b && c && d) e h));
+      states-range = within-range 1 stateLimit (u16At v 3) (and-right (a && b && c && d) e h);
+    }
+
+pub good-head : (f : Field) → GoodHead f → headGood f ≡ true
+unfolding headGood
+good-head f h =
+    let v = f .value in
+    simp (
+      eq-eqb (f .tag) headTag (h .tag-right),
+      eq-eqb (length v) headSize (h .size-right),
+      range-within 1 horizonLimit (u16At v 0) (h .horizon-range .0) (h .horizon-range .1),
+      range-within 1 cellLimit (getD v 2 0) (h .cells-range .0) (h .cells-range .1),
+      range-within 1 stateLimit (u16At v 3) (h .states-range .0) (h .states-range .1),
+    )
+
+pub head-written : (f : Field) (site : Site) → GoodHead f → Bytes (f .value)
+    → site .horizon ≡ u16At (f .value) 0 → site .cells ≡ getD (f .value) 2 0 → length (site .states) ≡ u16At (f .value) 3
+    → headField site ≡ f
+head-written f site h bytes horizon cells states =
+    let v = f .value in
+    let (a, b) = two-bytes v bytes 0 in
+    let (c, d) = two-bytes v bytes 3 in
+    field-is f _ _ (h .tag-right) (rw (horizon, cells, states, a, b, c, d) (list-of v headSize (h .size-right)))
+
+pub head-made : (site : Site) → WellFormed site → GoodHead (headField site)
+head-made site well =
+    let horizon = u16-back (site .horizon) (omega arith) in
+    let states = u16-back (length (site .states)) (omega arith) in
+    record {
+      tag-right = refl;
+      size-right = refl;
+      horizon-range = rw horizon (well .horizon-range);
+      cells-range = well .cells-range;
+      states-range = rw states (well .states-range);
+    }
+
+-- a good head is there, so it and the fields after it are all fields
+pub head-first : (fs : List Field) → getD fs 0 noField .tag ≡ headTag → getD fs 0 noField ∷ drop 1 fs ≡ fs
+head-first [] h = absurd (omega arith)
+head-first (f ∷ fs) h = refl

@@ -1,0 +1,64 @@
+-- All theorems about the definitions, each as it is stated in specs/.
+-- Assumes nothing.
+use Rattle.meaning.specs.Laws.{RefusalsRise, HoldersRight, SitesRight, LightsRight, PlansRight, SearchRight, IntervalsRight, HandoverRight}
+use Rattle.meaning.specs.Demands.{Desk, Exact, meantDesk, Demand1, Demand2, Demand3}
+use Rattle.meaning.specs.FourInLine.{Starred, Computed}
+use Rattle.meaning.proofs.AnswersLaws.{refusals-rise}
+use Rattle.meaning.proofs.HolderLaws.{holders-right}
+use Rattle.meaning.proofs.SiteLaws.{sites-right}
+use Rattle.meaning.proofs.LightLaws.{lights-right}
+use Rattle.meaning.proofs.PlanLaws.{plans-right}
+use Rattle.meaning.proofs.TraceLaws.{search-right}
+use Rattle.meaning.proofs.IntervalLaws.{intervals-right}
+use Rattle.meaning.proofs.HandoverLaws.{handover-right}
+use Rattle.meaning.proofs.DemandLaws.{exact-demand1, exact-demand2}
+use Rattle.meaning.proofs.ListLaws.{exact-demand3}
+use Rattle.meaning.proofs.FourInLine.{starred, computed}
+
+-- ---- the laws of specs/Laws.antt
+
+pub record AllLaws : Type 0 where
+  pub rise : RefusalsRise
+  pub holders : HoldersRight
+  pub sites : SitesRight
+  pub lights : LightsRight
+  pub plans : PlansRight
+  pub search : SearchRight
+  pub intervals : IntervalsRight
+  pub handover : HandoverRight
+
+pub all-laws : AllLaws
+all-laws = record {
+  rise = refusals-rise;
+  holders = holders-right;
+  sites = sites-right;
+  lights = lights-right;
+  plans = plans-right;
+  search = search-right;
+  intervals = intervals-right;
+  handover = handover-right;
+}
+
+-- ---- the demands of specs/Demands.antt
+
+pub record AllDemands (desk : Desk) : Type 0 where
+  pub first : Demand1 desk
+  pub second : Demand2 desk
+  pub third : Demand3 desk
+
+-- of every desk whose answers are the definitions': what the code's contracts are used for
+pub exact-demands : (desk : Desk) → Exact desk → AllDemands desk
+exact-demands desk exact = record { first = exact-demand1 desk exact; second = exact-demand2 desk exact; third = exact-demand3 desk exact }
+
+-- and so of the definitions' own desk
+pub demands : AllDemands meantDesk
+demands = exact-demands meantDesk (λ file l q d same. same)
+
+-- ---- the cases of specs/FourInLine.antt
+
+pub record AllCases : Type 0 where
+  pub with-star : Starred
+  pub without : Computed
+
+pub all-cases : AllCases
+all-cases = record { with-star = starred; without = computed }

@@ -1,0 +1,92 @@
+-- The day program: from the bytes of site.bin and of the script to the lines that it prints.
+-- Assumes nothing.
+use Prim.Native.Nat.{ℕ, zero, suc}
+use mathlib.Core.Bool.{Bool, cond, _&&_}
+use mathlib.Core.Option.{Option, none, some}
+use mathlib.Core.List.{List, [], _∷_}
+use lib.Dec.{eqb}
+use lib.ListN.{length, getD, take, replicate}
+use Rattle.meaning.specs.Limits.{closeTag, withdrawTag, routeTag, postTag, closeSize, withdrawSize, routeSize, dayArea, dayWords}
+use Rattle.meaning.specs.Basics.{u16At}
+use Rattle.meaning.specs.Fields.{Field, Fields, end, cut, next, fields}
+use Rattle.meaning.specs.Site.{siteOf}
+use Rattle.meaning.specs.Board.{boardLength, edition}
+use Rattle.meaning.specs.Calls.{Call, route, post, close, withdraw, opening, listed, Done, meant}
+
+-- a line's three numbers: number, edition after, arrival
+pub record Line : Type 0 where
+  pub number : ℕ
+  pub edition : ℕ
+  pub arrival : ℕ
+
+-- what follows ends the program
+abbrev pub badLine : Line
+badLine = record { number = 99; edition = 0; arrival = 0 }
+
+-- ---- the calls of a script
+
+abbrev pub isField : Field → ℕ → ℕ → Bool
+isField f tag size = eqb (f .tag) tag && eqb (length (f .value)) size
+
+-- the call of a field, given the last granted light; nothing for another tag or length
+unfoldable pub callOf : List ℕ → Field → Option Call
+callOf light f =
+    let v : List ℕ = f .value in
+    cond (isField f closeTag closeSize) (some (close (getD v 0 0) (getD v 1 0) (u16At v 2) (u16At v 4)))
+    (cond (isField f withdrawTag withdrawSize) (some (withdraw (getD v 0 0)))
+    (cond (isField f routeTag routeSize) (some (route (getD v 0 0) (record { state = u16At v 1; tick = u16At v 3 }) (u16At v 5)))
+    (cond (isField f postTag 0) (some (post light)) none)))
+
+-- ---- a call of the day
+
+-- the board, and the last granted light: none yet is an empty one
+pub record Day : Type 0 where
+  pub board : List ℕ
+  pub light : List ℕ
+
+-- the areas are lent whole; what they hold changes no answer
+unfoldable pub dayDone : List ℕ → Day → Call → Done
+dayDone file d c =
+    meant file (record { board = d .board; out = replicate dayArea 0; words = replicate dayWords 0 }) (listed c)
+
+-- a granted route has the light's length and the arrival beside its 0
+abbrev pub arrivalOf : List ℕ → ℕ
+arrivalOf [] = 0
+arrivalOf (n ∷ []) = 0
+arrivalOf (n ∷ arrival ∷ vs) = arrival
+
+abbrev pub lastLight : List ℕ → List ℕ → List ℕ → List ℕ
+lastLight old out [] = old
+lastLight old out (n ∷ vs) = take n out
+
+abbrev pub lineOf : Done → Line
+lineOf x = record { number = x .number; edition = edition (x .lent .board); arrival = arrivalOf (x .values) }
+
+abbrev pub dayAfter : Day → Done → Day
+dayAfter d x = record { board = x .lent .board; light = lastLight (d .light) (x .lent .out) (x .values) }
+
+-- ---- the program
+
+-- a line for a call, and the lines after it; a field that is no call ends the program
+abbrev pub lineThen : List ℕ → Day → Option Call → (Day → List Line) → List Line
+lineThen file d none more = badLine ∷ []
+lineThen file d (some c) more = let x : Done = dayDone file d c in lineOf x ∷ more (dayAfter d x)
+
+unfoldable pub linesFrom : List ℕ → Fields → Day → List Line
+linesFrom file end d = []
+linesFrom file cut d = badLine ∷ []
+linesFrom file (next f fs) d = lineThen file d (callOf (d .light) f) (linesFrom file fs)
+
+-- the board's part of its area: a site whose board is larger meets 7
+abbrev pub dayBoard : List ℕ → List ℕ
+dayBoard file = take (boardLength (siteOf file)) (replicate dayArea 0)
+
+-- a refused open prints its number and ends
+abbrev pub opened : List ℕ → List ℕ → Done → ℕ → List Line
+opened file script x zero = linesFrom file (fields script) (record { board = x .lent .board; light = [] })
+opened file script x (suc n) = record { number = suc n; edition = 0; arrival = 0 } ∷ []
+
+unfoldable pub dayLines : List ℕ → List ℕ → List Line
+dayLines file script =
+    let x : Done = meant file (record { board = dayBoard file; out = []; words = [] }) opening in
+    opened file script x (x .number)

@@ -1,0 +1,152 @@
+-- The worked site 'Four in line' and its cases, as one statement about the definitions, from the 100 bytes of its site file.
+-- Assumes nothing.
+use Prim.Native.Nat.{ℕ, zero, suc}
+use mathlib.Core.Path.{_≡_}
+use mathlib.Core.Bool.{false}
+use mathlib.Core.Option.{Option, none, some}
+use mathlib.Core.List.{List, [], _∷_, _++_}
+use lib.ListN.{length, take, replicate}
+use Rattle.meaning.specs.Answers.{Answer, accepted, refused}
+use Rattle.meaning.specs.Fields.{fieldsBytes}
+use Rattle.meaning.specs.Site.{siteOf, readSite}
+use Rattle.meaning.specs.Board.{free, edition}
+use Rattle.meaning.specs.Plan.{Step, wait, move, Node}
+use Rattle.meaning.specs.Reach.{Route}
+use Rattle.meaning.specs.Light.{Light, decode}
+use Rattle.meaning.specs.Calls.{route, post, close, PublicCall, opening, interval, listed, Done, meant}
+use Rattle.meaning.specs.Day.{Line, dayLines}
+use Rattle.meaning.specs.EarliestOnly.{earliestOnly}
+
+abbrev pub siteFile : List ℕ
+siteFile =
+    1 ∷ 0 ∷ 5 ∷ 0 ∷ 12 ∷ 4 ∷ 0 ∷ 5
+    ∷ 2 ∷ 0 ∷ 2 ∷ 0 ∷ 0
+    ∷ 2 ∷ 0 ∷ 2 ∷ 1 ∷ 1
+    ∷ 2 ∷ 0 ∷ 2 ∷ 1 ∷ 0
+    ∷ 2 ∷ 0 ∷ 2 ∷ 2 ∷ 1
+    ∷ 2 ∷ 0 ∷ 2 ∷ 3 ∷ 0
+    ∷ 3 ∷ 0 ∷ 11 ∷ 0 ∷ 0 ∷ 0 ∷ 1 ∷ 2 ∷ 0 ∷ 0 ∷ 1 ∷ 1 ∷ 1 ∷ 2
+    ∷ 3 ∷ 0 ∷ 11 ∷ 0 ∷ 1 ∷ 0 ∷ 3 ∷ 1 ∷ 1 ∷ 0 ∷ 1 ∷ 2 ∷ 1 ∷ 1
+    ∷ 3 ∷ 0 ∷ 11 ∷ 0 ∷ 3 ∷ 0 ∷ 4 ∷ 2 ∷ 2 ∷ 0 ∷ 1 ∷ 3 ∷ 1 ∷ 2
+    ∷ 3 ∷ 0 ∷ 8 ∷ 0 ∷ 1 ∷ 0 ∷ 2 ∷ 2 ∷ 1 ∷ 0 ∷ 2
+    ∷ 3 ∷ 0 ∷ 11 ∷ 0 ∷ 2 ∷ 0 ∷ 3 ∷ 2 ∷ 1 ∷ 0 ∷ 1 ∷ 2 ∷ 1 ∷ 2
+    ∷ []
+
+abbrev pub node : ℕ → ℕ → Node
+node s t = record { state = s; tick = t }
+
+-- ---- calls on a board, with areas that just fit and are not zero
+
+unfoldable pub called : List ℕ → PublicCall → Done
+called board q = meant siteFile (record { board = board; out = replicate 76 238; words = replicate 66 9 }) q
+
+abbrev pub boardOf : Done → List ℕ
+boardOf d = d .lent .board
+
+-- a board just opened, over bytes that are not 0
+unfoldable pub fresh : List ℕ
+fresh = boardOf (called (replicate 56 9) opening)
+
+-- one more closure, one more light
+unfoldable pub closed : ℕ → ℕ → ℕ → ℕ → List ℕ → List ℕ
+closed h c first last board = boardOf (called board (listed (close h c first last)))
+
+unfoldable pub posted : List ℕ → List ℕ → List ℕ
+posted light board = boardOf (called board (listed (post light)))
+
+-- the bytes that a grant writes
+abbrev pub lightIn : List ℕ → List ℕ → List ℕ
+lightIn [] out = []
+lightIn (n ∷ values) out = take n out
+
+unfoldable pub lightFor : List ℕ → Node → ℕ → List ℕ
+lightFor board a goal = let d : Done = called board (listed (route 7 a goal)) in lightIn (d .values) (d .lent .out)
+
+-- tug 7's route: the steps and the arrival of the light that it writes, or its number
+abbrev pub found : List Step → ℕ → Answer Route
+found ps t = accepted (record { steps = ps; arrival = t })
+
+abbrev pub says : ℕ → Option Light → Answer Route
+says zero none = refused 8
+says zero (some l) = found (l .steps) (l .arrival)
+says (suc n) o = refused (suc n)
+
+unfoldable pub routed : List ℕ → Node → ℕ → Answer Route
+routed board a goal = says (called board (listed (route 7 a goal)) .number) (decode (lightFor board a goal))
+
+-- ---- the boards of the cases
+
+unfoldable pub boardB : List ℕ
+boardB = closed 200 3 0 8 fresh
+
+unfoldable pub boardC : List ℕ
+boardC = closed 201 1 4 4 boardB
+
+unfoldable pub boardD : List ℕ
+boardD = closed 201 0 5 12 boardB
+
+unfoldable pub boardN : List ℕ
+boardN = closed 200 1 4 4 fresh
+
+unfoldable pub lightA : List ℕ
+lightA = lightFor fresh (node 0 0) 4
+
+unfoldable pub postedA : List ℕ
+postedA = posted lightA fresh
+
+-- B's light, byte for byte
+abbrev pub lightB : List ℕ
+lightB =
+    0x10 ∷ 0x00 ∷ 0x0D ∷ 0x00 ∷ 0x00 ∷ 0x00 ∷ 0x01 ∷ 0x07 ∷ 0x00 ∷ 0x00 ∷ 0x00 ∷ 0x00 ∷ 0x00 ∷ 0x04 ∷ 0x00 ∷ 0x0A
+    ∷ 0x11 ∷ 0x00 ∷ 0x02 ∷ 0x00 ∷ 0x05
+    ∷ 0x12 ∷ 0x00 ∷ 0x02 ∷ 0x00 ∷ 0x00
+    ∷ 0x12 ∷ 0x00 ∷ 0x02 ∷ 0x00 ∷ 0x01
+    ∷ 0x12 ∷ 0x00 ∷ 0x02 ∷ 0x00 ∷ 0x02
+    ∷ []
+
+-- O: the site with one more motion, 0 to 2 in one tick, that lets go of cell 0 as it takes cell 1
+abbrev pub siteFileO : List ℕ
+siteFileO = siteFile ++ fieldsBytes (record { tag = 3; value = 0 ∷ 0 ∷ 0 ∷ 2 ∷ 1 ∷ 0 ∷ 0 ∷ 0 ∷ 1 ∷ 1 ∷ 1 ∷ [] } ∷ [])
+
+-- the day program's script: close 200 on cell 3 0-8, B's route, a post
+abbrev pub script : List ℕ
+script =
+    fieldsBytes (
+    record { tag = 32; value = 200 ∷ 3 ∷ 0 ∷ 0 ∷ 0 ∷ 8 ∷ [] }
+    ∷ record { tag = 34; value = 7 ∷ 0 ∷ 0 ∷ 0 ∷ 0 ∷ 0 ∷ 4 ∷ [] }
+    ∷ record { tag = 35; value = [] }
+    ∷ [])
+
+abbrev pub line : ℕ → ℕ → ℕ → Line
+line n e t = record { number = n; edition = e; arrival = t }
+
+-- ---- the cases; start 0, tick 0 and goal 4 unless they say otherwise
+
+pub record Starred : Type 0 where
+  pub size : length siteFile ≡ 100
+  pub A : routed fresh (node 0 0) 4 ≡ found (move 0 ∷ move 1 ∷ move 2 ∷ []) 5
+  pub B : routed boardB (node 0 0) 4 ≡ found (wait 5 ∷ move 0 ∷ move 1 ∷ move 2 ∷ []) 10
+  pub B-light : lightFor boardB (node 0 0) 4 ≡ lightB
+  pub C : routed boardC (node 0 0) 4 ≡ found (wait 5 ∷ move 0 ∷ move 1 ∷ move 2 ∷ []) 10
+  pub C-earliest-only : earliestOnly (siteOf siteFile) (free (siteOf siteFile) boardC) (node 0 0) 4 ≡ false
+  pub D : routed boardD (node 0 0) 4 ≡ found (move 0 ∷ move 3 ∷ wait 2 ∷ move 4 ∷ move 2 ∷ []) 10
+  pub E : routed (closed 200 3 0 10 fresh) (node 0 0) 4 ≡ found (wait 7 ∷ move 0 ∷ move 1 ∷ move 2 ∷ []) 12
+  pub F : routed (closed 200 3 0 11 fresh) (node 0 0) 4 ≡ refused 18
+  pub G : routed (closed 200 0 0 0 fresh) (node 0 0) 4 ≡ refused 18
+  pub H : routed fresh (node 4 12) 4 ≡ found [] 12
+  pub I : routed (closed 200 2 4 4 fresh) (node 1 3) 4 ≡ found (move 3 ∷ move 4 ∷ move 2 ∷ []) 9
+  pub K-first : called boardB (listed (post lightB)) .number ≡ 0
+  pub K-edition : edition (posted lightB boardB) ≡ 2
+  pub K-again : called (posted lightB boardB) (listed (post lightB)) .number ≡ 12
+  pub L : called (closed 200 3 12 12 fresh) (listed (post lightA)) .number ≡ 16
+  pub M-held : called postedA (listed (close 200 1 3 3)) .number ≡ 17
+  pub M-free : called postedA (listed (close 200 1 4 4)) .number ≡ 0
+  pub N-count : called boardN (interval 1) .values ≡ 2 ∷ []
+  pub N-area : called boardN (interval 1) .lent .out ≡ (0 ∷ 3 ∷ 5 ∷ 12 ∷ []) ++ replicate 72 238
+
+-- the cases without a star, and the day program's example
+pub record Computed : Type 0 where
+  pub J-late : routed fresh (node 0 13) 4 ≡ refused 10
+  pub J-last : routed fresh (node 0 12) 4 ≡ refused 18
+  pub O : readSite siteFileO ≡ refused 6
+  pub day : dayLines siteFile script ≡ line 0 1 0 ∷ line 0 1 10 ∷ line 0 2 0 ∷ []

@@ -1,0 +1,95 @@
+-- The theorems about the definitions: each record is one statement, proved in proofs/Theorems.antt.
+-- Assumes nothing.
+use Prim.Native.Nat.{ℕ, suc, _+_, _≤_, _<_}
+use mathlib.Core.Path.{_≡_}
+use mathlib.Core.Bool.{Bool, true, false}
+use mathlib.Core.Option.{none, some}
+use mathlib.Core.List.{List, []}
+use lib.ListN.{length}
+use Rattle.meaning.specs.Limits.{fileLimit, lastTug, lastClosure}
+use Rattle.meaning.specs.Basics.{Bytes}
+use Rattle.meaning.specs.Answers.{RiseFrom, accepted}
+use Rattle.meaning.specs.Site.{Site, readSite}
+use Rattle.meaning.specs.Board.{Free, isTug, isClosure, isHolder}
+use Rattle.meaning.specs.Plan.{Step, Node, planEnd, planPairs}
+use Rattle.meaning.specs.Reach.{reachWord, Route, findRoute}
+use Rattle.meaning.specs.Light.{Light, encode, decode}
+use Rattle.meaning.specs.Intervals.{intervals, numbersOf}
+use Rattle.meaning.specs.Calls.{PublicCall, Lent, numbersRoom, lightRoom, refusals}
+use Rattle.meaning.specs.PlainBoard.{hasPair}
+use Rattle.meaning.specs.ValidPlans.{Valid, Reached, Arrival, Holds, Traced, mergeWaits}
+use Rattle.meaning.specs.SafeIntervals.{AllSafeIntervals}
+use Rattle.meaning.specs.WellFormed.{WellFormed, fileOf, KeepsLayout}
+
+-- the numbers of every call's list rise, so that the first that applies is the lowest
+pub record RefusalsRise : Type 0 where
+  pub rise : (file : List ℕ) (l : Lent) (q : PublicCall) → RiseFrom 0 (refusals file l q)
+
+-- the holders of 9, at each end; 255 is no holder
+pub record HoldersRight : Type 0 where
+  pub tugs : (h : ℕ) → isTug h ≡ true → (1 ≤ h) × (h ≤ lastTug)
+  pub all-tugs : (h : ℕ) → 1 ≤ h → h ≤ lastTug → isTug h ≡ true
+  pub closures : (h : ℕ) → isClosure h ≡ true → (lastTug < h) × (h ≤ lastClosure)
+  pub all-closures : (h : ℕ) → lastTug < h → h ≤ lastClosure → isClosure h ≡ true
+  pub holders : (h : ℕ) → isHolder h ≡ true → (1 ≤ h) × (h ≤ lastClosure)
+  pub all-holders : (h : ℕ) → 1 ≤ h → h ≤ lastClosure → isHolder h ≡ true
+  pub not-255 : isHolder 255 ≡ false
+
+-- a file of bytes is accepted exactly when it is the file of a well-formed site of at most 65,536 bytes, and it is read as that site
+pub record SitesRight : Type 0 where
+  pub read-back : (site : Site) → WellFormed site → length (fileOf site) ≤ fileLimit → readSite (fileOf site) ≡ accepted site
+  pub only-those : (file : List ℕ) (site : Site) → Bytes file → readSite file ≡ accepted site
+      → WellFormed site × (fileOf site ≡ file) × (length file ≤ fileLimit)
+
+-- bytes are a light exactly when they are that light's bytes and it keeps the layout
+pub record LightsRight : Type 0 where
+  pub read-back : (l : Light) → KeepsLayout l → decode (encode l) ≡ some l
+  pub only-those : (bytes : List ℕ) (l : Light) → Bytes bytes → decode bytes ≡ some l → KeepsLayout l × (encode l ≡ bytes)
+
+-- the walk accepts exactly the valid plans, and the pairs that are marked are exactly those that the plan holds
+pub record PlansRight : Type 0 where
+  pub walked : (site : Site) (f : Free) (a : Node) (ps : List Step) (b : Node) → planEnd site f a ps ≡ some b → Valid site f a ps b
+  pub all-walked : (site : Site) (f : Free) (a : Node) (ps : List Step) (b : Node) → Valid site f a ps b → planEnd site f a ps ≡ some b
+  pub marked : (site : Site) (a : Node) (ps : List Step) (c t : ℕ) → hasPair (planPairs site a ps) c t ≡ true → Holds site a ps c t
+  pub all-marked : (site : Site) (a : Node) (ps : List Step) (c t : ℕ) → Holds site a ps c t → hasPair (planPairs site a ps) c t ≡ true
+
+-- the search, on a well-formed site
+pub record SearchRight : Type 0 where
+  -- a back pointer is not 0 exactly at a reached pair
+  pub pointed : (site : Site) → WellFormed site → (f : Free) (a : Node) (k s w : ℕ)
+      → reachWord site f a k s ≡ suc w → Reached site f a (record { state = s; tick = a .tick + k })
+  pub all-pointed : (site : Site) → WellFormed site → (f : Free) (a : Node) (k s : ℕ)
+      → Reached site f a (record { state = s; tick = a .tick + k }) → reachWord site f a k s ≡ 0 → ⊥
+  -- a route is found exactly when a valid plan exists
+  pub found : (site : Site) → WellFormed site → (f : Free) (a : Node) (goal t : ℕ)
+      → Reached site f a (record { state = goal; tick = t }) → findRoute site f a goal ≡ none → ⊥
+  -- it arrives on the least tick
+  pub earliest : (site : Site) → WellFormed site → (f : Free) (a : Node) (goal : ℕ) (r : Route) → findRoute site f a goal ≡ some r
+      → Arrival site f a goal (r .arrival)
+  -- its steps are valid, and those of the traced rule with adjoining waits merged
+  pub valid : (site : Site) → WellFormed site → (f : Free) (a : Node) (goal : ℕ) (r : Route) → findRoute site f a goal ≡ some r
+      → Valid site f a (r .steps) (record { state = goal; tick = r .arrival })
+  pub traced : (site : Site) → WellFormed site → (f : Free) (a : Node) (goal : ℕ) (r : Route) → findRoute site f a goal ≡ some r
+      → (back : List Step) × Traced site f a (record { state = goal; tick = r .arrival }) back × (r .steps ≡ mergeWaits back [])
+  -- that rule leaves no choice
+  pub one-trace : (site : Site) (f : Free) (a b : Node) (back other : List Step) → Traced site f a b back → Traced site f a b other → back ≡ other
+  -- every light of the steps fits the output area
+  pub fits : (site : Site) → WellFormed site → (f : Free) (a : Node) (goal : ℕ) (r : Route) → findRoute site f a goal ≡ some r
+      → (l : Light) → l .steps ≡ r .steps → length (encode l) ≤ lightRoom site
+
+-- what the interval call writes: all safe intervals and only those, in no more numbers than the area must have
+pub record IntervalsRight : Type 0 where
+  pub all-safe : (p : ℕ → Bool) (horizon : ℕ) → AllSafeIntervals p horizon (intervals p horizon)
+  pub fit : (p : ℕ → Bool) (site : Site) → length (numbersOf (intervals p (site .horizon))) ≤ numbersRoom site
+
+-- handover: at each tick before its arrival a valid plan holds some one cell at that tick and the next
+pub record HandoverRight : Type 0 where
+  pub handed : (site : Site) → WellFormed site → (f : Free) (a : Node) (ps : List Step) (b : Node) → Valid site f a ps b
+      → (t : ℕ) → a .tick ≤ t → t < b .tick
+      → (c : ℕ) × Holds site a ps c t × Holds site a ps c (suc t)
+  -- so of two plans that share no pair, neither moves into cells that the other leaves at that moment: they never change places
+  pub no-swap : (site : Site) → WellFormed site → (f g : Free) (a d : Node) (ps qs : List Step) (b e : Node)
+      → Valid site f a ps b → Valid site g d qs e
+      → ((c t : ℕ) → Holds site a ps c t → Holds site d qs c t → ⊥)
+      → (t : ℕ) → a .tick ≤ t → t < b .tick
+      → ((c : ℕ) → Holds site a ps c (suc t) → Holds site d qs c t) → ⊥
