@@ -53,4 +53,4 @@ unfolding every any all allBelow within lowest answer split fields complete list
     encode lightOf isLightHead isWait isMove inLayout isLight decode begins runEnd intervalsFrom intervals
     bytesView startNamed runNamed lightNamed lightValid routeRefusals lightRefusals closeRefusals withdrawRefusals intervalRefusals refusals grantedLight changed acceptedDone refusedDone meant
     called fresh closed posted lightFor routed boardB boardC boardD boardN lightA postedA callOf dayDone linesFrom dayLines
-computed = record { J-late = refl; J-last = refl; O = refl; day = refl }
+computed = record { A-earliest-only = refl; J-late = refl; J-last = refl; O = refl; day = refl; day-cut = refl; day-tag = refl; day-refused = refl; day-empty = refl }

@@ -2,7 +2,7 @@
 -- wait wherever it is. It is no part of any promise: case C says what it would answer.
 -- Assumes nothing.
 use Prim.Native.Nat.{ℕ, zero, suc, _+_, _-_}
-use mathlib.Core.Bool.{Bool, false, not, _||_}
+use mathlib.Core.Bool.{Bool, false, cond, not, _||_}
 use mathlib.Core.List.{List, [], _∷_}
 use lib.Dec.{leb, eqb}
 use lib.ListN.{length, getD}
@@ -51,3 +51,7 @@ anyRow (r ∷ rs) s = getD r s false || anyRow rs s
 -- the goal is kept at some tick
 abbrev pub earliestOnly : Site → Free → Node → ℕ → Bool
 earliestOnly site f a goal = anyRow (keptRows site f a (site .horizon - a .tick)) goal
+
+-- what this search would answer
+abbrev pub earliestNumber : Site → Free → Node → ℕ → ℕ
+earliestNumber site f a goal = cond (earliestOnly site f a goal) 0 18

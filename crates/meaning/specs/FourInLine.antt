@@ -2,12 +2,11 @@
 -- Assumes nothing.
 use Prim.Native.Nat.{ℕ, zero, suc}
 use mathlib.Core.Path.{_≡_}
-use mathlib.Core.Bool.{false}
 use mathlib.Core.Option.{Option, none, some}
 use mathlib.Core.List.{List, [], _∷_, _++_}
 use lib.ListN.{length, take, replicate}
 use Rattle.meaning.specs.Answers.{Answer, accepted, refused}
-use Rattle.meaning.specs.Fields.{fieldsBytes}
+use Rattle.meaning.specs.Fields.{Field, fieldsBytes}
 use Rattle.meaning.specs.Site.{siteOf, readSite}
 use Rattle.meaning.specs.Board.{free, edition}
 use Rattle.meaning.specs.Plan.{Step, wait, move, Node}
@@ -15,7 +14,7 @@ use Rattle.meaning.specs.Reach.{Route}
 use Rattle.meaning.specs.Light.{Light, decode}
 use Rattle.meaning.specs.Calls.{route, post, close, PublicCall, opening, interval, listed, Done, meant}
 use Rattle.meaning.specs.Day.{Line, dayLines}
-use Rattle.meaning.specs.EarliestOnly.{earliestOnly}
+use Rattle.meaning.specs.EarliestOnly.{earliestNumber}
 
 abbrev pub siteFile : List ℕ
 siteFile =
@@ -108,14 +107,21 @@ lightB =
 abbrev pub siteFileO : List ℕ
 siteFileO = siteFile ++ fieldsBytes (record { tag = 3; value = 0 ∷ 0 ∷ 0 ∷ 2 ∷ 1 ∷ 0 ∷ 0 ∷ 0 ∷ 1 ∷ 1 ∷ 1 ∷ [] } ∷ [])
 
--- the day program's script: close 200 on cell 3 0-8, B's route, a post
+-- fields of the day program's scripts: close 200 on cell 3 0-8, its withdrawal, B's route, a post
+abbrev pub closing : Field
+closing = record { tag = 32; value = 200 ∷ 3 ∷ 0 ∷ 0 ∷ 0 ∷ 8 ∷ [] }
+
+abbrev pub withdrawing : Field
+withdrawing = record { tag = 33; value = 200 ∷ [] }
+
+abbrev pub routing : Field
+routing = record { tag = 34; value = 7 ∷ 0 ∷ 0 ∷ 0 ∷ 0 ∷ 0 ∷ 4 ∷ [] }
+
+abbrev pub posting : Field
+posting = record { tag = 35; value = [] }
+
 abbrev pub script : List ℕ
-script =
-    fieldsBytes (
-    record { tag = 32; value = 200 ∷ 3 ∷ 0 ∷ 0 ∷ 0 ∷ 8 ∷ [] }
-    ∷ record { tag = 34; value = 7 ∷ 0 ∷ 0 ∷ 0 ∷ 0 ∷ 0 ∷ 4 ∷ [] }
-    ∷ record { tag = 35; value = [] }
-    ∷ [])
+script = fieldsBytes (closing ∷ routing ∷ posting ∷ [])
 
 abbrev pub line : ℕ → ℕ → ℕ → Line
 line n e t = record { number = n; edition = e; arrival = t }
@@ -128,7 +134,7 @@ pub record Starred : Type 0 where
   pub B : routed boardB (node 0 0) 4 ≡ found (wait 5 ∷ move 0 ∷ move 1 ∷ move 2 ∷ []) 10
   pub B-light : lightFor boardB (node 0 0) 4 ≡ lightB
   pub C : routed boardC (node 0 0) 4 ≡ found (wait 5 ∷ move 0 ∷ move 1 ∷ move 2 ∷ []) 10
-  pub C-earliest-only : earliestOnly (siteOf siteFile) (free (siteOf siteFile) boardC) (node 0 0) 4 ≡ false
+  pub C-earliest-only : earliestNumber (siteOf siteFile) (free (siteOf siteFile) boardC) (node 0 0) 4 ≡ 18
   pub D : routed boardD (node 0 0) 4 ≡ found (move 0 ∷ move 3 ∷ wait 2 ∷ move 4 ∷ move 2 ∷ []) 10
   pub E : routed (closed 200 3 0 10 fresh) (node 0 0) 4 ≡ found (wait 7 ∷ move 0 ∷ move 1 ∷ move 2 ∷ []) 12
   pub F : routed (closed 200 3 0 11 fresh) (node 0 0) 4 ≡ refused 18
@@ -146,7 +152,16 @@ pub record Starred : Type 0 where
 
 -- the cases without a star, and the day program's example
 pub record Computed : Type 0 where
+  -- an earliest-only search does find the way of case A
+  pub A-earliest-only : earliestNumber (siteOf siteFile) (free (siteOf siteFile) fresh) (node 0 0) 4 ≡ 0
   pub J-late : routed fresh (node 0 13) 4 ≡ refused 10
   pub J-last : routed fresh (node 0 12) 4 ≡ refused 18
   pub O : readSite siteFileO ≡ refused 6
   pub day : dayLines siteFile script ≡ line 0 1 0 ∷ line 0 1 10 ∷ line 0 2 0 ∷ []
+  -- no light was granted yet, so 8; a withdrawal; then a field that is cut
+  pub day-cut : dayLines siteFile (fieldsBytes (posting ∷ closing ∷ withdrawing ∷ []) ++ (33 ∷ 0 ∷ []))
+      ≡ line 8 0 0 ∷ line 0 1 0 ∷ line 0 2 0 ∷ line 99 0 0 ∷ []
+  -- a tag that is none ends the program
+  pub day-tag : dayLines siteFile (fieldsBytes (record { tag = 31; value = [] } ∷ closing ∷ [])) ≡ line 99 0 0 ∷ []
+  pub day-refused : dayLines siteFileO script ≡ line 6 0 0 ∷ []
+  pub day-empty : dayLines siteFile [] ≡ []
