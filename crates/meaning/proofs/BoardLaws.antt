@@ -17,6 +17,13 @@ use Rattle.meaning.specs.Board.{Free, boardLength, place, byteAt, editio
 use Rattle.meaning.specs.PlainBoard.{hasPair}
 use Rattle.meaning.proofs.BasicsLaws.{every-at, every-nil, every-cons, decide, all-nil, all-cons, all-head, all-tail, u32-back}
 
+-- ---- the edition's bytes
+
+-- boards that agree in them have one edition
+pub same-edition : (b d : List ℕ) → ((i : ℕ) → i < 4 → getD b i 0 ≡ getD d i 0) → edition b ≡ edition d
+same-edition b d h =
+    simp (h 0 (omega arith), h 1 (omega arith), h 2 (omega arith), h 3 (omega arith))
+
 -- ---- where a pair's byte is
 
 module _ (site : Site) where
@@ -74,10 +81,6 @@ module _ (site : Site) where
       let there : place site c t ≡ suc (suc (suc (suc i))) = omega arith in
       let back : 4 + i ≡ place site c t = omega arith in
       ap (λ (j : ℕ). getD (withEdition n board) j 0) there ∙ getD-drop 4 board i 0 ∙ ap (λ (j : ℕ). getD board j 0) back
-
-  pub same-edition : (b d : List ℕ) → ((i : ℕ) → i < 4 → getD b i 0 ≡ getD d i 0) → edition b ≡ edition d
-  same-edition b d h =
-      simp (h 0 (omega arith), h 1 (omega arith), h 2 (omega arith), h 3 (omega arith))
 
   -- ---- marking pairs
 

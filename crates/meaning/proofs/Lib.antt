@@ -14,6 +14,7 @@ pub mod TraceLaws
 pub mod BoardLaws
 pub mod PlainLaws
 pub mod CallLaws
+pub mod CheckLaws
 pub mod RouteLaws
 pub mod ListLaws
 pub mod DemandLaws

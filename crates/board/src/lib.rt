@@ -1,0 +1,196 @@
+// The board: how a byte sorts, the edition, which ticks of a cell are free, who stands, and what is written.
+ghost use mathlib.Core.Path.{_≡_};
+ghost use mathlib.Core.Bool.{cond};
+ghost use Prim.Native.Nat.{_<_, _≤_};
+ghost use lib.Dec.{eqb};
+ghost use lib.ListN.{length, replicate};
+ghost use Rattle.meaning.specs.Limits.{header, lastEdition};
+ghost use Rattle.meaning.specs.Site.{Site};
+ghost use Rattle.meaning.specs.Board.{sortOf, isTug, isClosure, isHolder, edition, withEdition, nextEdition, free, stands, mark, runTo, clear};
+ghost use Rattle.meaning.specs.Plan.{freeFromTo};
+ghost use Rattle.board.specs.Holders.{sortCase};
+ghost use Rattle.board.specs.Runs.{Row};
+
+// The bytes of the edition, which stand before those of the cells.
+const HEADER: usize = 4;
+
+// Who holds a byte's pair.
+pub enum Holder {
+    Free,
+    Tug,
+    Closure,
+    Unknown,
+}
+
+// How a byte of the board sorts.
+pub fn sort(b: u8) -> Holder
+    ensures { λ r. ⌜ sortCase r ≡ sortOf b ⌝ }
+{
+    match b {
+        0 => Holder::Free,
+        1..=199 => Holder::Tug,
+        200..=254 => Holder::Closure,
+        _ => Holder::Unknown,
+    }
+}
+
+// A tug's number, 1 to 199.
+pub fn is_tug(h: u8) -> bool
+    ensures { λ r. ⌜ r ≡ isTug h ⌝ }
+{
+    match sort(h) {
+        Holder::Free => false,
+        Holder::Tug => true,
+        Holder::Closure => false,
+        Holder::Unknown => false,
+    }
+}
+
+// A closure's number, 200 to 254.
+pub fn is_closure(h: u8) -> bool
+    ensures { λ r. ⌜ r ≡ isClosure h ⌝ }
+{
+    match sort(h) {
+        Holder::Free => false,
+        Holder::Tug => false,
+        Holder::Closure => true,
+        Holder::Unknown => false,
+    }
+}
+
+// A number that may stand on the board, 1 to 254.
+pub fn is_holder(h: u8) -> bool
+    ensures { λ r. ⌜ r ≡ isHolder h ⌝ }
+{
+    match sort(h) {
+        Holder::Free => false,
+        Holder::Tug => true,
+        Holder::Closure => true,
+        Holder::Unknown => false,
+    }
+}
+
+// ---- the edition: four bytes, high byte first
+
+fn wide(x: u8) -> u32
+    ensures { λ r. ⌜ (r ≡ x) × (r < 256) ⌝ }
+{
+    x as u32
+}
+
+pub fn read_edition(board: &[u8]) -> u32
+    requires { ⌜ header ≤ length (now board) ⌝ }
+    ensures { λ r. ⌜ r ≡ edition (now (board .entry)) ⌝ }
+{
+    (wide(board[0]) * 256 + wide(board[1])) * 65536 + (wide(board[2]) * 256 + wide(board[3]))
+}
+
+pub fn write_edition(board: &mut [u8], n: u32)
+    requires { ⌜ header ≤ length (now board) ⌝ }
+    ensures { λ _. ⌜ now (board .exit) ≡ withEdition n (now (board .entry)) ⌝ }
+{
+    board[0] = (n / 65536 / 256 % 256) as u8;
+    board[1] = (n / 65536 % 256) as u8;
+    board[2] = (n / 256 % 256) as u8;
+    board[3] = (n % 256) as u8;
+}
+
+// Adds 1 to the edition.
+pub fn next_edition(board: &mut [u8])
+    requires { ⌜ (header ≤ length (now board)) × (edition (now board) < lastEdition) ⌝ }
+    ensures { λ _. ⌜ now (board .exit) ≡ nextEdition (now (board .entry)) (now (board .entry)) ⌝ }
+{
+    let n = read_edition(board);
+    write_edition(board, n + 1);
+}
+
+// ---- the whole board
+
+// Sets every byte to 0.
+pub fn set_free(board: &mut [u8])
+    ensures { λ _. ⌜ now (board .exit) ≡ replicate (length (now (board .entry))) 0 ⌝ }
+{
+    let mut i = 0;
+    while i < board.len() {
+        board[i] = 0;
+        i += 1;
+    }
+}
+
+// Does some byte after the edition carry the holder's number?
+pub fn holder_stands(board: &[u8], h: u8) -> bool
+    requires { ⌜ header ≤ length (now board) ⌝ }
+    ensures { λ r. ⌜ r ≡ stands (now (board .entry)) h ⌝ }
+{
+    if !is_holder(h) {
+        return false;
+    }
+    let mut at = HEADER;
+    while at < board.len() {
+        if board[at] == h {
+            return true;
+        }
+        at += 1;
+    }
+    false
+}
+
+// A byte after the holder h is withdrawn.
+fn wiped(x: u8, h: u8) -> u8
+    ensures { λ r. ⌜ r ≡ cond (eqb x h) 0 x ⌝ }
+{
+    if x == h {
+        return 0;
+    }
+    x
+}
+
+// Sets every byte of the holder to 0; the edition's bytes are no holder's.
+pub fn clear_holder(board: &mut [u8], h: u8)
+    requires { ⌜ header ≤ length (now board) ⌝ }
+    ensures { λ _. ⌜ now (board .exit) ≡ clear h (now (board .entry)) ⌝ }
+{
+    let mut i = HEADER;
+    while i < board.len() {
+        board[i] = wiped(board[i], h);
+        i += 1;
+    }
+}
+
+// ---- ticks of a cell
+
+// Is the cell free at the tick?
+pub fn is_free(board: &[u8], horizon: usize, cell: usize, tick: usize) -> bool
+    requires { ⌜ Row (length (now board)) horizon cell tick ⌝ }
+    ensures { λ r. ⌜ ((site : Site) → site .horizon ≡ horizon → cell < site .cells → r ≡ free site (now (board .entry)) cell tick) ⌝ }
+{
+    board[HEADER + cell * (horizon + 1) + tick] == 0
+}
+
+// Is the cell free from the tick first to the tick last, both included?
+pub fn run_free(board: &[u8], horizon: usize, cell: usize, first: usize, last: usize) -> bool
+    requires { ⌜ Row (length (now board)) horizon cell last ⌝ }
+    ensures { λ r. ⌜ ((site : Site) → site .horizon ≡ horizon → cell < site .cells → r ≡ freeFromTo (free site (now (board .entry))) cell first last) ⌝ }
+{
+    let mut t = first;
+    while t <= last {
+        if !is_free(board, horizon, cell, t) {
+            return false;
+        }
+        t += 1;
+    }
+    true
+}
+
+// Writes the holder's number over the cell's ticks first to last, both included.
+pub fn mark_run(board: &mut [u8], horizon: usize, cell: usize, first: usize, last: usize, h: u8)
+    requires { ⌜ Row (length (now board)) horizon cell last ⌝ }
+    ensures { λ _. ⌜ ((site : Site) → site .horizon ≡ horizon → now (board .exit) ≡ mark site h (runTo cell first last) (now (board .entry))) ⌝ }
+{
+    let row = HEADER + cell * (horizon + 1);
+    let mut tick = first;
+    while tick <= last {
+        board[row + tick] = h;
+        tick += 1;
+    }
+}
