@@ -1,6 +1,7 @@
 -- Which nodes some valid steps reach from a start, by a table of back pointers, and the plan that the table gives.
 -- A word of the table is 0 for a node that is not reached, 1 for the start, 2 where a wait of one tick leads there,
--- and else 3 + m for the lowest motion m that leads there.
+-- and else 3 + m for the lowest motion m that leads there. What this computes is said without a table in ValidPlans (`Reached`,
+-- `Arrival`, `Traced`), and SearchRight says that the two agree.
 -- Assumes nothing.
 use Prim.Native.Nat.{ℕ, zero, suc, _+_, _-_}
 use mathlib.Core.Bool.{Bool, true, false, cond, not}
