@@ -1,0 +1,244 @@
+-- Laws of the states and the motions of a site file that is laid out well.
+-- Assumes nothing.
+use Prim.Native.Nat.{ℕ, zero, suc, _+_, _*_, _-_, _≤_, _<_}
+use mathlib.Core.Path.{_≡_, refl, sym, ap, _∙_}
+use mathlib.Core.List.{List, [], _∷_, map}
+use mathlib.Core.Bool.{Bool, true, false, _&&_, not}
+use native.Mathlib.Omega.{arith}
+use native.Mathlib.Numerals.{add-one}
+use lib.ListN.{length, getD, take, drop, set, length-drop, length-map}
+use lib.Seq.{drop-drop, getD-drop, drop-at, take-add, length-take-le, getD-set-same, getD-set-other}
+use lib.Dec.{leb, ltb, eqb}
+use borrow.Author.Tests.{leb-true, eqb-true, eqb-false, ltb-true}
+use Rattle.meaning.specs.Limits.{motionLimit, sweepLimit, motionTag}
+use Rattle.meaning.specs.Basics.{all, within, u16At}
+use Rattle.meaning.specs.Fields.{Field, listed}
+use Rattle.meaning.specs.Site.{Motion, Site, noMotion, siteOf, cellOf, stateCount, isMotion, sweepCount, motionsLaid, motionOf, sweepsOf, endsGood, sweepsGood, motionGood}
+use Rattle.meaning.proofs.BasicsLaws.{and-left, and-right, within-range}
+use Rattle.fields.specs.declared.Header.{Header}
+use Rattle.fields.specs.Places.{fieldsAt, fieldAt, Next, Whole}
+use Rattle.fields.proofs.Laws.{listed-end, next-is, value-length, value-byte, value-u16}
+use Rattle.sweeps.specs.Places.{sweepsAt}
+use Rattle.layout.specs.Laid.{statePlace, Laid}
+use Rattle.layout.proofs.Laws.{AfterStates, laid-count, laid-after, laid-motions}
+use Rattle.site.specs.declared.Move.{Move}
+use Rattle.site.specs.Motions.{Shows, Motions, MotionPlace}
+
+-- ---- a test of what a list has from a number on
+
+module _ {A : Type 0} (p : A → Bool) (d : A) where
+  pub rest-none : (xs : List A) (i : ℕ) → length xs ≤ i → all p (drop i xs) ≡ true
+  unfolding all
+  rest-none [] zero h = refl
+  rest-none [] (suc i) h = refl
+  rest-none (x ∷ xs) zero h = absurd (omega arith)
+  rest-none (x ∷ xs) (suc i) h = rest-none xs i (omega arith)
+
+  rest-first : (xs : List A) (i : ℕ) → i < length xs → drop i xs ≡ getD xs i d ∷ drop (suc i) xs
+  rest-first [] i h = absurd (omega arith)
+  rest-first (x ∷ xs) zero h = refl
+  rest-first (x ∷ xs) (suc i) h = rest-first xs i (omega arith)
+
+  pub rest-hit : (xs : List A) (i : ℕ) → i < length xs → p (getD xs i d) ≡ true → all p (drop i xs) ≡ all p (drop (i + 1) xs)
+  unfolding all
+  rest-hit xs i h e = rw (rest-first xs i h, e, add-one i)
+
+  pub rest-miss : (xs : List A) (i : ℕ) → i < length xs → p (getD xs i d) ≡ false → all p (drop i xs) ≡ false
+  unfolding all
+  rest-miss xs i h e = rw (rest-first xs i h, e)
+
+-- ---- a motion by place
+
+-- n is the length of its value
+pub record MotionHere (file : List ℕ) (at n : ℕ) : Type 0 where
+  pub some-sweeps : 1 ≤ sweepCount n
+  pub few-sweeps : sweepCount n ≤ sweepLimit
+  pub size : n ≡ 5 + 3 * sweepCount n
+  pub from : motionOf (fieldAt file at) .from ≡ u16At file (at + 3)
+  pub to : motionOf (fieldAt file at) .to ≡ u16At file (at + 3 + 2)
+  pub span : motionOf (fieldAt file at) .span ≡ getD file (at + 3 + 4) 0
+  pub sweeps : motionOf (fieldAt file at) .sweeps ≡ sweepsAt file (at + 3 + 5) (sweepCount n)
+
+drop-take : (i m : ℕ) (l : List ℕ) → i ≤ length l → drop i (take (i + m) l) ≡ take m (drop i l)
+drop-take i m l p = ap (drop i) (take-add i m l) ∙ drop-at (take i l) _ i (length-take-le i l p)
+
+value-is : (file : List ℕ) (at n : ℕ) → n ≡ u16At file (at + 1) → fieldAt file at .value ≡ take n (drop (at + 3) file)
+unfolding fieldAt
+value-is file at n h = rw h
+
+motion-sweeps : (file : List ℕ) (at n k : ℕ) → n ≡ u16At file (at + 1) → at + 3 + n ≤ length file → n ≡ 5 + 3 * k
+    → motionOf (fieldAt file at) .sweeps ≡ sweepsAt file (at + 3 + 5) k
+unfolding motionOf sweepsAt
+motion-sweeps file at n k h q e =
+    let d = length-drop (at + 3) file in
+    ap sweepsOf (ap (drop 5) (value-is file at n h ∙ ap (λ (j : ℕ). take j (drop (at + 3) file)) e)
+    ∙ drop-take 5 (3 * k) (drop (at + 3) file) (omega arith)
+    ∙ rw (drop-drop 5 (at + 3) file))
+
+pub motion-here : (file : List ℕ) (at n : ℕ) → n ≡ u16At file (at + 1) → at + 3 + n ≤ length file → isMotion (fieldAt file at) ≡ true → MotionHere file at n
+unfolding isMotion motionOf
+motion-here file at n h q e =
+    let f = fieldAt file at in
+    let l = value-length file at n h q in
+    let t : (eqb (f .tag) motionTag && within 1 sweepLimit (sweepCount n)) && eqb n (5 + 3 * sweepCount n) ≡ true = rw l at e in
+    let u = and-left (eqb (f .tag) motionTag && within 1 sweepLimit (sweepCount n)) (eqb n (5 + 3 * sweepCount n)) t in
+    let s = eqb-true n (5 + 3 * sweepCount n) (and-right (eqb (f .tag) motionTag && within 1 sweepLimit (sweepCount n)) (eqb n (5 + 3 * sweepCount n)) t) in
+    let w = within-range 1 sweepLimit (sweepCount n) (and-right (eqb (f .tag) motionTag) (within 1 sweepLimit (sweepCount n)) u) in
+    let lo = w .0 in
+    let a : at + 3 + 0 ≡ at + 3 = omega arith in
+    record {
+      some-sweeps = lo;
+      few-sweeps = w .1;
+      size = s;
+      from = value-u16 file at 0 (omega arith) ∙ ap (u16At file) a;
+      to = value-u16 file at 2 (omega arith);
+      span = value-byte file at 4 (omega arith);
+      sweeps = motion-sweeps file at n (sweepCount n) h q s;
+    }
+
+-- the same, by what the reader says of its field
+pub record MotionRead (file : List ℕ) (at : ℕ) (h : Header) : Type 0 where
+  pub inside : h .start + 5 + 3 * sweepCount (h .len) ≤ length file
+  pub from : motionOf (fieldAt file at) .from ≡ u16At file (h .start)
+  pub to : motionOf (fieldAt file at) .to ≡ u16At file (h .start + 2)
+  pub span : motionOf (fieldAt file at) .span ≡ getD file (h .start + 4) 0
+  pub sweeps : motionOf (fieldAt file at) .sweeps ≡ sweepsAt file (h .start + 5) (sweepCount (h .len))
+
+pub motion-read : (file : List ℕ) (at : ℕ) (h : Header) → Whole file at h → isMotion (fieldAt file at) ≡ true → MotionRead file at h
+motion-read file at h w e =
+    let s = sym (w .start) in
+    let n = w .next in
+    let i = w .inside in
+    let x = motion-here file at (h .len) (w .len) (omega arith) e in
+    let z = x .size in
+    record {
+      inside = omega arith;
+      from = x .from ∙ ap (u16At file) s;
+      to = x .to ∙ ap (λ (k : ℕ). u16At file (k + 2)) s;
+      span = x .span ∙ ap (λ (k : ℕ). getD file (k + 4) 0) s;
+      sweeps = x .sweeps ∙ ap (λ (k : ℕ). sweepsAt file (k + 5) (sweepCount (h .len))) s;
+    }
+
+-- the motion's test, by what was read of it
+pub motion-test : (file : List ℕ) (site : Site) (m : Motion) (r : Move) (cells count : ℕ) → Shows file m r → cells ≡ site .cells → count ≡ length (site .states) →
+    motionGood site m ≡ (endsGood count (r .from) (r .to) (r .span)
+    && sweepsGood cells (cellOf site (r .from)) (cellOf site (r .to)) (r .span) (sweepsAt file (r .first) (r .count)))
+unfolding motionGood
+motion-test file site m r cells count s p q = rw (← s .from, ← s .to, ← s .span, ← s .sweeps, ← p, ← q)
+
+pub ends-below : (n a b d : ℕ) → endsGood n a b d ≡ true → (a < n) × (b < n)
+unfolding endsGood
+ends-below n a b d e =
+    let both = and-left (ltb a n && ltb b n) (not (eqb a b)) (and-left (ltb a n && ltb b n && not (eqb a b)) (leb 1 d) e) in
+    (ltb-true a n (and-left (ltb a n) (ltb b n) both), ltb-true b n (and-right (ltb a n) (ltb b n) both))
+
+-- ---- the motions from a place on
+
+module _ (p : Motion → Bool) (f : Field) (fs gs : List Field) (h : fs ≡ f ∷ gs) where
+  pub motions-hit : p (motionOf f) ≡ true → all p (map motionOf fs) ≡ all p (map motionOf gs)
+  unfolding all
+  motions-hit e = rw (h, e)
+
+  pub motions-miss : p (motionOf f) ≡ false → all p (map motionOf fs) ≡ false
+  unfolding all
+  motions-miss e = rw (h, e)
+
+pub motions-none : (p : Motion → Bool) (file : List ℕ) (at : ℕ) → length file ≤ at → all p (map motionOf (listed (fieldsAt file at))) ≡ true
+unfolding all
+motions-none p file at h = rw (listed-end file at h)
+
+module _ (p : Field → Bool) (f : Field) (fs gs : List Field) (h : fs ≡ f ∷ gs) (e : all p fs ≡ true) where
+  both : (p f && all p gs) ≡ true
+  unfolding all
+  both = rw h at e
+
+  all-first : p f ≡ true
+  all-first = and-left (p f) (all p gs) both
+
+  all-rest : all p gs ≡ true
+  all-rest = and-right (p f) (all p gs) both
+
+pub motions-next : (file : List ℕ) (at r : ℕ) → Motions file at → Next file at r → Motions file r
+motions-next file at r m x = record { inside = x .inside; whole = x .whole; motions = all-rest isMotion _ _ _ (x .list) (m .motions) }
+
+pub motions-first : (file : List ℕ) (at : ℕ) → Motions file at → at < length file → isMotion (fieldAt file at) ≡ true
+motions-first file at m p = let x = next-is file at _ _ (m .whole) p refl refl in all-first isMotion _ _ _ (x .list) (m .motions)
+
+-- where the motions of a file start
+pub laid-start : (file : List ℕ) (start : ℕ) → Laid file → start ≡ statePlace (length (siteOf file .states))
+    → Motions file start × (siteOf file .motions ≡ map motionOf (listed (fieldsAt file start)))
+unfolding motionsLaid
+laid-start file start d e =
+    let c = laid-count file d in
+    let s : start ≡ statePlace (stateCount file) = omega arith in
+    let y = laid-after file d in
+    let fs = listed (fieldsAt file (statePlace (stateCount file))) in
+    (rw s (record { inside = y .inside; whole = y .whole; motions = and-left (all isMotion fs) (leb (length fs) motionLimit) (y .motions) }), rw s (laid-motions file d))
+
+pub laid-few : (file : List ℕ) → Laid file → length (siteOf file .motions) ≤ motionLimit
+unfolding motionsLaid
+laid-few file d =
+    let y = laid-after file d in
+    let fs = listed (fieldsAt file (statePlace (stateCount file))) in
+    let l = leb-true (length fs) motionLimit (and-right (all isMotion fs) (leb (length fs) motionLimit) (y .motions)) in
+    let m : length (siteOf file .motions) ≡ length fs = ap length (laid-motions file d) ∙ simp length-map in
+    omega arith
+
+-- ---- the index
+
+-- the motions from the place at on, where n motions lie before it
+pub record Reached (file : List ℕ) (at n : ℕ) : Type 0 where
+  pub motions : Motions file at
+  pub list : map motionOf (listed (fieldsAt file at)) ≡ drop n (siteOf file .motions)
+  pub count : n + length (listed (fieldsAt file at)) ≡ length (siteOf file .motions)
+
+pub reached-first : (file : List ℕ) (start : ℕ) → Laid file → start ≡ statePlace (length (siteOf file .states)) → Reached file start 0
+reached-first file start d e =
+    let x = laid-start file start d e in
+    let c : length (siteOf file .motions) ≡ length (listed (fieldsAt file start)) = ap length (x .1) ∙ simp length-map in
+    record { motions = x .0; list = sym (x .1); count = omega arith }
+
+pub reached-next : (file : List ℕ) (at r n : ℕ) → Reached file at n → Next file at r → Reached file r (n + 1)
+reached-next file at r n m x =
+    let l = ap length (x .list) in
+    let c = m .count in
+    record {
+      motions = motions-next file at r (m .motions) x;
+      list = ap (drop 1) (sym (ap (map motionOf) (x .list)) ∙ m .list) ∙ drop-drop 1 n (siteOf file .motions);
+      count = omega arith;
+    }
+
+pub reached-end : (file : List ℕ) (at n : ℕ) → Reached file at n → length file ≤ at → n ≡ length (siteOf file .motions)
+reached-end file at n m p =
+    let l = ap length (listed-end file at p) in
+    let c = m .count in
+    omega arith
+
+pub reached-more : (file : List ℕ) (at n : ℕ) → Reached file at n → at < length file → n < length (siteOf file .motions)
+reached-more file at n m p =
+    let x = next-is file at _ _ (m .motions .whole) p refl refl in
+    let l = ap length (x .list) in
+    let c = m .count in
+    omega arith
+
+pub reached-place : (file : List ℕ) (at n : ℕ) → Reached file at n → at < length file → MotionPlace file n at
+reached-place file at n m p =
+    let x = next-is file at _ _ (m .motions .whole) p refl refl in
+    let z : n + 0 ≡ n = omega arith in
+    record {
+      inside = p;
+      whole = m .motions .whole;
+      laid = motions-first file at (m .motions) p;
+      motion =
+          ap (λ (ms : List Motion). getD ms 0 noMotion) (sym (ap (map motionOf) (x .list)) ∙ m .list)
+          ∙ getD-drop n (siteOf file .motions) 0 noMotion ∙ ap (λ (k : ℕ). getD (siteOf file .motions) k noMotion) z;
+    }
+
+-- a list that is filled from the front
+pub filled : (P : ℕ → ℕ → Type 0) (xs : List ℕ) (n v : ℕ) → n < length xs → ((k : ℕ) → k < n → P k (getD xs k 0)) → P n v
+    → (k : ℕ) → k < n + 1 → P k (getD (set xs n v) k 0)
+filled P xs n v l f p k q = go (eqb k n) refl
+  where
+    go : (b : Bool) → eqb k n ≡ b → P k (getD (set xs n v) k 0)
+    go true e = rw (eqb-true k n e, getD-set-same xs n v 0 l) p
+    go false e = let d = eqb-false k n e in rw (getD-set-other xs n k v 0 d) (f k (omega arith))

@@ -1,0 +1,51 @@
+-- `site::motion` meets its contract.
+-- Assumes nothing.
+use mathlib.Core.Path.{subst}
+use Rattle.meaning.specs.Site.{Motion}
+use Rattle.site.specs.Motions.{Shows, MotionPlace}
+use Rattle.site.proofs.Laws.{laid-few}
+use native.Mathlib.Omega.{arith}
+use Rattle.site.proofs.motion.Statement.{statement}
+use Rattle.site.proofs.motion.Tie as tie
+use Rattle.site.proofs.motion.Reads as reads
+use Rattle.site.proofs.motion.Lts as lts
+use Rattle.site.proofs.read_motion.Reads as read-motion-reads
+
+mul-at : tie.Need-mul-at
+mul-at c =
+    let p = c .before .pre in
+    let l = p .2 in
+    let s = laid-few (c .before .args .file .now) (p .0) in
+    omega arith
+
+element-copy-out-at : tie.Need-element-copy-out-at
+element-copy-out-at c =
+    let p = c .before .pre in
+    let l = p .2 in
+    let s = laid-few (c .before .args .file .now) (p .0) in
+    omega arith
+
+cast-at : tie.Need-cast-at
+cast-at c =
+    let a = c .before .before .args in
+    let p = c .before .before .pre in
+    let m = p .1 (a .k) (p .2) in
+    let i = m .inside in
+    omega arith
+
+read-motion-requires : tie.Need-read-motion-requires
+read-motion-requires c κs =
+    let a = c .before .before .args in
+    let p = c .before .before .pre in
+    let m = p .1 (a .k) (p .2) in
+    (m .whole, m .inside, m .laid)
+
+returns : tie.Need-returns
+returns c =
+    let a = c .before .before .before .args in
+    let p = c .before .before .before .pre in
+    let m = p .1 (a .k) (p .2) in
+    subst (λ (x : Motion). Shows (a .file .now) x (c .read-motion .result)) (m .motion) (c .read-motion .ensures)
+
+pub motion-spec : {M : Type 1} → statement M
+motion-spec = tie.close (tie.spec mul-at element-copy-out-at cast-at read-motion-requires returns)

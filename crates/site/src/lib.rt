@@ -1,0 +1,217 @@
+// The site file: refusals 1 to 6, and access to what an accepted file says.
+use layout::Head;
+ghost use mathlib.Core.Path.{_≡_};
+ghost use mathlib.Core.Bool.{true};
+ghost use mathlib.Core.List.{map};
+ghost use Prim.Native.Nat.{_<_, _≤_};
+ghost use lib.ListN.{length};
+ghost use Rattle.meaning.specs.Basics.{all};
+ghost use Rattle.meaning.specs.Fields.{complete, listed};
+ghost use Rattle.meaning.specs.Site.{siteOf, stateAt, motionAt, motionOf, isMotion, cellGood, endsGood, motionGood, readSite};
+ghost use Rattle.fields.specs.Places.{fieldsAt, fieldAt};
+ghost use Rattle.layout.specs.Laid.{statePlace, HeadIs, Laid};
+ghost use Rattle.site.specs.Motions.{Shows, Motions, Index};
+ghost use Rattle.site.specs.Check.{checkOf};
+
+// Where the state `i` starts: the head has 8 bytes, and each state has 5.
+fn state_place(i: usize) -> usize
+    requires { ⌜ i < 65536 ⌝ }
+    ensures { λ r. ⌜ r ≡ statePlace i ⌝ }
+{
+    8 + 5 * i
+}
+
+// The cell and the speed of the state `i`.
+pub fn state_cell(file: &[u8], i: usize) -> u8
+    requires { ⌜ Laid (now file) × (i < length (siteOf (now file) .states)) ⌝ }
+    ensures { λ r. ⌜ r ≡ stateAt (siteOf (now (file .entry))) i .cell ⌝ }
+{
+    file[state_place(i) + 3]
+}
+
+pub fn state_speed(file: &[u8], i: usize) -> u8
+    requires { ⌜ Laid (now file) × (i < length (siteOf (now file) .states)) ⌝ }
+    ensures { λ r. ⌜ r ≡ stateAt (siteOf (now (file .entry))) i .speed ⌝ }
+{
+    file[state_place(i) + 4]
+}
+
+// Each of the `count` states names a cell below `cells`.
+fn states_good(file: &[u8], count: usize, cells: u8) -> bool
+    requires { ⌜ Laid (now file) × (count ≡ length (siteOf (now file) .states)) ⌝ }
+    ensures { λ r. ⌜ r ≡ all (cellGood cells) (siteOf (now (file .entry)) .states) ⌝ }
+{
+    let mut i = 0;
+    while i < count {
+        if state_cell(file, i) < cells {
+            i = i + 1;
+        } else {
+            return false;
+        }
+    }
+    true
+}
+
+// A motion: its numbers, and the place and the count of its sweeps.
+pub struct Move {
+    pub from: usize,
+    pub to: usize,
+    pub span: u8,
+    pub first: usize,
+    pub count: usize,
+}
+
+// The motion whose field starts at `at`.
+fn read_motion(file: &[u8], at: usize) -> Move
+    requires { ⌜ (complete (fieldsAt (now file) at) ≡ true) × (at < length (now file)) × (isMotion (fieldAt (now file) at) ≡ true) ⌝ }
+    ensures { λ r. ⌜ Shows (now (file .entry)) (motionOf (fieldAt (now (file .entry)) at)) r ⌝ }
+{
+    let h = fields::header_at(file, at);
+    let start = h.start;
+    let len = h.len;
+    Move {
+        from: fields::number_at(file, start),
+        to: fields::number_at(file, start + 2),
+        span: file[start + 4],
+        first: start + 5,
+        count: layout::sweep_count(len),
+    }
+}
+
+// The states are two of `count` and differ, and the span is not 0.
+fn ends_good(from: usize, to: usize, span: u8, count: usize) -> bool
+    ensures { λ r. ⌜ r ≡ endsGood count from to span ⌝ }
+{
+    if count <= from {
+        return false;
+    }
+    if count <= to {
+        return false;
+    }
+    if from == to {
+        return false;
+    }
+    0 < span
+}
+
+// The motion whose field starts at `at` meets the rules on its values and sweeps.
+fn motion_good(file: &[u8], at: usize, count: usize, cells: u8) -> bool
+    requires { ⌜ Laid (now file) × (complete (fieldsAt (now file) at) ≡ true) × (at < length (now file)) × (isMotion (fieldAt (now file) at) ≡ true) ⌝ }
+    requires { ⌜ (cells ≡ siteOf (now file) .cells) × (count ≡ length (siteOf (now file) .states)) ⌝ }
+    ensures { λ r. ⌜ r ≡ motionGood (siteOf (now (file .entry))) (motionOf (fieldAt (now (file .entry)) at)) ⌝ }
+{
+    let m = read_motion(file, at);
+    let from = m.from;
+    let to = m.to;
+    let span = m.span;
+    let first = m.first;
+    let sweeps = m.count;
+    if ends_good(from, to, span, count) {
+        let x = state_cell(file, from);
+        let y = state_cell(file, to);
+        sweeps::sweeps_pass(file, first, sweeps, span, cells, x, y)
+    } else {
+        false
+    }
+}
+
+// Each motion from `start` on does.
+fn motions_good(file: &[u8], start: usize, count: usize, cells: u8) -> bool
+    requires { ⌜ Laid (now file) × Motions (now file) start ⌝ }
+    requires { ⌜ (cells ≡ siteOf (now file) .cells) × (count ≡ length (siteOf (now file) .states)) ⌝ }
+    ensures { λ r. ⌜ r ≡ all (motionGood (siteOf (now (file .entry)))) (map motionOf (listed (fieldsAt (now (file .entry)) start))) ⌝ }
+{
+    let mut at = start;
+    while at < file.len() {
+        if motion_good(file, at, count, cells) {
+            at = fields::next_field(file, at);
+        } else {
+            return false;
+        }
+    }
+    true
+}
+
+// What an accepted file says of its site: H, C, the counts, and where the motions start.
+pub struct Layout {
+    pub horizon: usize,
+    pub cells: u8,
+    pub states: usize,
+    pub motions: usize,
+    pub start: usize,
+}
+
+pub enum SiteCheck {
+    Accepted(Layout),
+    Refused(u8),
+}
+
+// The checks 5 and 6, in a file that passed those before.
+fn check_values(file: &[u8], head: Head) -> SiteCheck
+    requires { ⌜ (length (now file) ≤ 65536) × Laid (now file) × HeadIs (now file) head ⌝ }
+    ensures { λ r. ⌜ r ≡ checkOf (readSite (now (file .entry))) ⌝ }
+{
+    let cells = head.cells;
+    let count = head.states;
+    let start = state_place(count);
+    let states_pass = states_good(file, count, cells);
+    let motions_pass = motions_good(file, start, count, cells);
+    if !states_pass {
+        return SiteCheck::Refused(5);
+    }
+    if !motions_pass {
+        return SiteCheck::Refused(6);
+    }
+    SiteCheck::Accepted(Layout {
+        horizon: head.horizon,
+        cells,
+        states: count,
+        motions: fields::count_fields(file, start),
+        start,
+    })
+}
+
+// The check of any file: accepted, or the lowest number that applies.
+pub fn check_site(file: &[u8]) -> SiteCheck
+    ensures { λ r. ⌜ r ≡ checkOf (readSite (now (file .entry))) ⌝ }
+{
+    if 65536 < file.len() {
+        return SiteCheck::Refused(1);
+    }
+    if !fields::fields_complete(file) {
+        return SiteCheck::Refused(2);
+    }
+    if !layout::head_good(file) {
+        return SiteCheck::Refused(3);
+    }
+    let head = layout::read_head(file);
+    if !layout::layout_good(file, head.start, head.states) {
+        return SiteCheck::Refused(4);
+    }
+    check_values(file, head)
+}
+
+// The index: where each motion's field starts, found in one walk from `start`, where the motions start.
+pub fn motion_index(file: &[u8], start: usize) -> [u16; 2000]
+    requires { ⌜ (length (now file) ≤ 65536) × Laid (now file) × (start ≡ statePlace (length (siteOf (now file) .states))) ⌝ }
+    ensures { λ r. ⌜ Index (now (file .entry)) r ⌝ }
+{
+    let mut index = [0u16; 2000];
+    let mut at = start;
+    let mut n = 0;
+    while at < file.len() {
+        index[n] = at as u16;
+        at = fields::next_field(file, at);
+        n = n + 1;
+    }
+    index
+}
+
+// The motion of the number `k`, by the index.
+pub fn motion(file: &[u8], index: &[u16; 2000], k: usize) -> Move
+    requires { ⌜ Laid (now file) × Index (now file) (now index) × (k < length (siteOf (now file) .motions)) ⌝ }
+    ensures { λ r. ⌜ Shows (now (file .entry)) (motionAt (siteOf (now (file .entry))) k) r ⌝ }
+{
+    let at = index[k] as usize;
+    read_motion(file, at)
+}

@@ -1,0 +1,23 @@
+-- Sweeps by their place in a site file.
+-- Assumes nothing.
+use Prim.Native.Nat.{ℕ, _+_, _*_}
+use mathlib.Core.Path.{_≡_}
+use mathlib.Core.List.{List}
+use lib.ListN.{take, drop, getD}
+use Rattle.meaning.specs.Limits.{sweepSize}
+use Rattle.meaning.specs.Site.{Sweep, sweepsOf}
+use Rattle.sweeps.specs.declared.Use.{Use}
+
+-- the sweep at the place at
+abbrev pub sweepAt : List ℕ → ℕ → Sweep
+sweepAt file at = record { cell = getD file at 0; first = getD file (at + 1) 0; last = getD file (at + 2) 0 }
+
+-- n sweeps from the place at on
+unfoldable pub sweepsAt : List ℕ → ℕ → ℕ → List Sweep
+sweepsAt file at n = sweepsOf (take (sweepSize * n) (drop at file))
+
+-- what r says is the sweep w
+pub record UseIs (w : Sweep) (r : Use) : Type 0 where
+  pub cell : r .cell ≡ w .cell
+  pub first : r .first ≡ w .first
+  pub last : r .last ≡ w .last
