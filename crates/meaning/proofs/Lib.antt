@@ -18,5 +18,6 @@ pub mod CheckLaws
 pub mod RouteLaws
 pub mod ListLaws
 pub mod DemandLaws
+pub mod AreaLaws
 pub mod FourInLine
 pub mod Theorems

@@ -144,22 +144,29 @@ pub record Lent : Type 0 where
   pub out : List ℕ
   pub words : List ℕ
 
+abbrev pub lends : List ℕ → List ℕ → List ℕ → Lent
+lends board out words = record { board = board; out = out; words = words }
+
+-- a board with no areas
+abbrev pub onBoard : List ℕ → Lent
+onBoard board = lends board [] []
+
 abbrev pub roomOf : Lent → Room
 roomOf l = record { out = length (l .out); words = length (l .words) }
 
 abbrev pub withBoard : List ℕ → Lent → Lent
-withBoard board l = record { board = board; out = l .out; words = l .words }
+withBoard board l = lends board (l .out) (l .words)
 
 -- new numbers in front of an area, and later ones as before
 abbrev pub over : List ℕ → List ℕ → List ℕ
 over new area = new ++ drop (length new) area
 
 abbrev pub withOut : List ℕ → Lent → Lent
-withOut new l = record { board = l .board; out = over new (l .out); words = l .words }
+withOut new l = lends (l .board) (over new (l .out)) (l .words)
 
 -- the words that a search needs are zero, and later ones as before
 abbrev pub withWordsZero : Site → Lent → Lent
-withWordsZero site l = record { board = l .board; out = l .out; words = over (replicate (wordsNeeded site) 0) (l .words) }
+withWordsZero site l = lends (l .board) (l .out) (over (replicate (wordsNeeded site) 0) (l .words))
 
 -- ---- every refusal of a call, 1 to 7 first
 

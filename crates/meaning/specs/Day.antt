@@ -11,7 +11,7 @@ use Rattle.meaning.specs.Basics.{u16At}
 use Rattle.meaning.specs.Fields.{Field, Fields, end, cut, next, fields}
 use Rattle.meaning.specs.Site.{siteOf}
 use Rattle.meaning.specs.Board.{boardLength, edition}
-use Rattle.meaning.specs.Calls.{Call, route, post, close, withdraw, opening, listed, Done, meant}
+use Rattle.meaning.specs.Calls.{Call, route, post, close, withdraw, opening, listed, lends, onBoard, Done, meant}
 
 -- a line's three numbers: number, edition after, arrival
 pub record Line : Type 0 where
@@ -47,7 +47,7 @@ pub record Day : Type 0 where
 -- the areas are lent whole; what they hold changes no answer
 unfoldable pub dayDone : List ℕ → Day → Call → Done
 dayDone file d c =
-    meant file (record { board = d .board; out = replicate dayArea 0; words = replicate dayWords 0 }) (listed c)
+    meant file (lends (d .board) (replicate dayArea 0) (replicate dayWords 0)) (listed c)
 
 -- a granted route has the light's length and the arrival beside its 0
 abbrev pub arrivalOf : List ℕ → ℕ
@@ -88,5 +88,5 @@ opened file script x (suc n) = record { number = suc n; edition = 0; arrival = 0
 
 unfoldable pub dayLines : List ℕ → List ℕ → List Line
 dayLines file script =
-    let x : Done = meant file (record { board = dayBoard file; out = []; words = [] }) opening in
+    let x : Done = meant file (onBoard (dayBoard file)) opening in
     opened file script x (x .number)

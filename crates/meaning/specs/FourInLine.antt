@@ -12,7 +12,7 @@ use Rattle.meaning.specs.Board.{free, edition}
 use Rattle.meaning.specs.Plan.{Step, wait, move, Node}
 use Rattle.meaning.specs.Reach.{Route}
 use Rattle.meaning.specs.Light.{Light, decode}
-use Rattle.meaning.specs.Calls.{route, post, close, PublicCall, opening, interval, listed, Done, meant}
+use Rattle.meaning.specs.Calls.{route, post, close, PublicCall, opening, interval, listed, lends, Done, meant}
 use Rattle.meaning.specs.Day.{Line, dayLines}
 use Rattle.meaning.specs.EarliestOnly.{earliestNumber}
 
@@ -37,7 +37,7 @@ node s t = record { state = s; tick = t }
 -- ---- calls on a board, with areas that just fit and are not zero
 
 unfoldable pub called : List ℕ → PublicCall → Done
-called board q = meant siteFile (record { board = board; out = replicate 76 238; words = replicate 66 9 }) q
+called board q = meant siteFile (lends board (replicate 76 238) (replicate 66 9)) q
 
 abbrev pub boardOf : Done → List ℕ
 boardOf d = d .lent .board
