@@ -5,7 +5,6 @@ use mathlib.Core.List.{List}
 use lib.ListN.{length, drop}
 use Rattle.meaning.specs.Limits.{fieldHeader}
 use Rattle.meaning.specs.Fields.{Fields, end, cut, next, fields}
-use Rattle.fields.specs.declared.Header.{Header}
 use Rattle.fields.specs.declared.Item.{Item}
 use Rattle.fields.specs.declared.Item.the-variants.{Field, Cut, End}
 

@@ -75,7 +75,7 @@ module _ (file board out words : List ℕ) (cell : ℕ) where
   abbrev counted : Done
   counted = meant file (lends board out []) (interval cell)
 
-  pub interval-alone : meant file (lends board out words) (interval cell) ≡ record { number = counted .number; values = counted .values; lent = lends (counted .lent .board) (counted .lent .out) words }
+  pub interval-alone : meant file (lends board out words) (interval cell) ≡ record { number = counted .number; values = counted .values; lent = lends board (counted .lent .out) words }
   unfolding refusals intervalRefusals acceptedDone
   interval-alone = by-number (lowest (refusals file (lends board out []) (interval cell))) refl
     where
@@ -83,13 +83,13 @@ module _ (file board out words : List ℕ) (cell : ℕ) where
       no-route tug a goal w = let y : _≡_ {A = ℕ} 0 1 = cc in omega arith
 
       by-number : (n : ℕ) → lowest (refusals file (lends board out []) (interval cell)) ≡ n
-          → meant file (lends board out words) (interval cell) ≡ record { number = counted .number; values = counted .values; lent = lends (counted .lent .board) (counted .lent .out) words }
+          → meant file (lends board out words) (interval cell) ≡ record { number = counted .number; values = counted .values; lent = lends board (counted .lent .out) words }
       by-number zero e =
           meant-by file (lends board out words) (interval cell) 0 e
-          ∙ sym (ap (λ (d : Done). record { number = d .number; values = d .values; lent = lends (d .lent .board) (d .lent .out) words }) (meant-by file (lends board out []) (interval cell) 0 e))
+          ∙ sym (ap (λ (d : Done). record { number = d .number; values = d .values; lent = lends board (d .lent .out) words }) (meant-by file (lends board out []) (interval cell) 0 e))
       by-number (suc n) e =
           let other : suc n ≡ 18 → ⊥ = λ z. only-routes file (lends board out []) (interval cell) (meant-number file (lends board out []) (interval cell) ∙ e ∙ z) no-route in
           meant-by file (lends board out words) (interval cell) (suc n) e
           ∙ refused-same (siteOf file) (lends board out words) (suc n) other
-          ∙ sym (ap (λ (d : Done). record { number = d .number; values = d .values; lent = lends (d .lent .board) (d .lent .out) words })
+          ∙ sym (ap (λ (d : Done). record { number = d .number; values = d .values; lent = lends board (d .lent .out) words })
           (meant-by file (lends board out []) (interval cell) (suc n) e ∙ refused-same (siteOf file) (lends board out []) (suc n) other))

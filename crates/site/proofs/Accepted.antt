@@ -15,7 +15,7 @@ use Rattle.meaning.specs.Fields.{fields, complete}
 use Rattle.meaning.specs.Site.{Site, noState, noMotion, siteOf, siteRefusals, readSite, headOf, headGood, layoutGood, stateCount, laterOf, cellGood, motionGood, motionAt, cellOf}
 use Rattle.meaning.proofs.BasicsLaws.{all-at}
 use Rattle.layout.specs.Laid.{Laid}
-use Rattle.layout.proofs.Laws.{HeadRanges, laid-ranges, laid-count}
+use Rattle.layout.proofs.Laws.{laid-ranges, laid-count}
 use Rattle.site.specs.declared.Layout.{Layout}
 use Rattle.site.specs.declared.SiteCheck.the-variants.{Accepted, Refused}
 use Rattle.site.specs.Check.{checkOf, layoutOf}

@@ -1,6 +1,6 @@
 -- Laws of the states and the motions of a site file that is laid out well.
 -- Assumes nothing.
-use Prim.Native.Nat.{ℕ, zero, suc, _+_, _*_, _-_, _≤_, _<_}
+use Prim.Native.Nat.{ℕ, zero, suc, _+_, _*_, _≤_, _<_}
 use mathlib.Core.Path.{_≡_, refl, sym, ap, _∙_}
 use mathlib.Core.List.{List, [], _∷_, map}
 use mathlib.Core.Bool.{Bool, true, false, _&&_, not}
@@ -20,7 +20,7 @@ use Rattle.fields.specs.Places.{fieldsAt, fieldAt, Next, Whole}
 use Rattle.fields.proofs.Laws.{listed-end, next-is, value-length, value-byte, value-u16}
 use Rattle.sweeps.specs.Places.{sweepsAt}
 use Rattle.layout.specs.Laid.{statePlace, Laid}
-use Rattle.layout.proofs.Laws.{AfterStates, laid-count, laid-after, laid-motions}
+use Rattle.layout.proofs.Laws.{laid-count, laid-after, laid-motions}
 use Rattle.site.specs.declared.Move.{Move}
 use Rattle.site.specs.Motions.{Shows, Motions, MotionPlace}
 

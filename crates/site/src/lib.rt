@@ -62,7 +62,7 @@ pub struct Move {
 }
 
 // The motion whose field starts at `at`.
-fn read_motion(file: &[u8], at: usize) -> Move
+pub fn read_motion(file: &[u8], at: usize) -> Move
     requires { ⌜ (complete (fieldsAt (now file) at) ≡ true) × (at < length (now file)) × (isMotion (fieldAt (now file) at) ≡ true) ⌝ }
     ensures { λ r. ⌜ Shows (now (file .entry)) (motionOf (fieldAt (now (file .entry)) at)) r ⌝ }
 {

@@ -4,7 +4,7 @@ use Prim.Native.Nat.{_≤_, _-_}
 use mathlib.Core.Path.{_≡_, sym, ap, _∙_}
 use lib.ListN.{length}
 use Rattle.meaning.specs.Fields.{fields, complete}
-use Rattle.fields.specs.Places.{fieldsAt, Whole}
+use Rattle.fields.specs.Places.{fieldsAt}
 use Rattle.fields.proofs.Laws.{whole-at, complete-end, is-end, is-cut, is-field, whole-complete, cut-incomplete}
 use borrow.Author.Needs.{needs}
 use native.Mathlib.Omega.{arith}

@@ -3,7 +3,6 @@
 use mathlib.Core.Path.{sym, _∙_}
 use Rattle.layout.proofs.Laws.{head-end, head-cut, head-tag, head-length, head-values}
 use Rattle.fields.proofs.Laws.{is-end, is-cut, is-field}
-use Rattle.fields.specs.Places.{Whole}
 use native.Mathlib.Omega.{arith}
 use borrow.Author.Needs.{needs}
 use Rattle.layout.proofs.head_good.Statement.{statement}

@@ -6,7 +6,7 @@ use lib.ListN.{getD}
 use Rattle.meaning.specs.Basics.{u16At}
 use Rattle.meaning.specs.Fields.{complete}
 use Rattle.fields.proofs.Laws.{whole-at}
-use Rattle.layout.proofs.Laws.{HeadHere, head-here, header-places}
+use Rattle.layout.proofs.Laws.{head-here, header-places}
 use native.Mathlib.Omega.{arith}
 use borrow.Author.Needs.{needs}
 use Rattle.layout.proofs.read_head.Statement.{statement}

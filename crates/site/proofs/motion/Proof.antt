@@ -2,7 +2,7 @@
 -- Assumes nothing.
 use mathlib.Core.Path.{subst}
 use Rattle.meaning.specs.Site.{Motion}
-use Rattle.site.specs.Motions.{Shows, MotionPlace}
+use Rattle.site.specs.Motions.{Shows}
 use Rattle.site.proofs.Laws.{laid-few}
 use native.Mathlib.Omega.{arith}
 use Rattle.site.proofs.motion.Statement.{statement}

@@ -3,8 +3,7 @@
 use Prim.Native.Nat.{ℕ, _<_, _-_}
 use mathlib.Core.Path.{_≡_, refl, _∙_}
 use lib.ListN.{length, getD, length-set}
-use Rattle.fields.specs.Places.{Next}
-use Rattle.site.specs.Motions.{Motions, MotionPlace}
+use Rattle.site.specs.Motions.{MotionPlace}
 use Rattle.site.proofs.Laws.{Reached, reached-first, reached-next, reached-end, reached-more, reached-place, laid-few, filled}
 use borrow.Author.Needs.{needs}
 use native.Mathlib.Omega.{arith}

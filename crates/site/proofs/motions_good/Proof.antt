@@ -7,7 +7,7 @@ use lib.ListN.{length}
 use Rattle.meaning.specs.Basics.{all}
 use Rattle.meaning.specs.Fields.{listed}
 use Rattle.meaning.specs.Site.{siteOf, motionOf, motionGood}
-use Rattle.fields.specs.Places.{fieldsAt, Next}
+use Rattle.fields.specs.Places.{fieldsAt}
 use Rattle.fields.proofs.Laws.{next-is}
 use Rattle.site.specs.Motions.{Motions}
 use Rattle.site.proofs.Laws.{motions-first, motions-next, motions-hit, motions-miss, motions-none}

@@ -2,7 +2,7 @@
 -- Assumes nothing.
 use mathlib.Core.Path.{sym, ap, _∙_}
 use Rattle.sweeps.specs.Places.{sweepsAt}
-use Rattle.site.proofs.Laws.{MotionRead, motion-read}
+use Rattle.site.proofs.Laws.{motion-read}
 use native.Mathlib.Omega.{arith}
 use borrow.Author.Needs.{needs}
 use Rattle.site.proofs.read_motion.Statement.{statement}

@@ -1,0 +1,3 @@
+pub mod AllowLaws
+pub mod RightLaws
+pub mod RangeLaws

@@ -1,0 +1,114 @@
+-- `reach::allow_one` meets its contract: the sweeps that are left, with the row as it is, are the whole test of the row as it was.
+-- Assumes nothing.
+use Prim.Native.Nat.{_+_, _-_, _≤_}
+use native.Mathlib.Omega.{arith}
+use lib.ListN.{getD}
+use Rattle.frees.specs.Frees.{rowsFree}
+use Rattle.reach.proofs.AllowLaws.{Narrowing, narrowing-start, narrowing-turn, narrowing-end}
+use Rattle.reach.proofs.allow_one.Statement.{statement}
+use Rattle.reach.proofs.allow_one.Tie as tie
+
+abbrev Inv-loop : tie.InvT-loop
+Inv-loop allowed₀ frees sweeps m place count p₀ i₀ allowed p i = (i ≤ count) × Narrowing sweeps (rowsFree frees) allowed₀ allowed m place count p i
+
+abbrev μ-loop : tie.MeasureT-loop
+μ-loop allowed₀ frees sweeps m place count p₀ i₀ allowed p i = count - i
+
+loop-holds : tie.Need-loop-holds Inv-loop μ-loop
+loop-holds c = (omega arith, narrowing-start _ _ _ _ _ _)
+
+shared-slice-read-byte : tie.Need-shared-slice-read-byte Inv-loop μ-loop
+shared-slice-read-byte c =
+    let start = c .before .before .before .before .before .before in
+    omega (arith, c .before .before .loop .inv .1 .at-place, start .pre .1 .long)
+
+byte-requires : tie.Need-byte-requires Inv-loop μ-loop
+byte-requires c κs = omega arith
+
+add-byte : tie.Need-add-byte Inv-loop μ-loop
+add-byte c = omega arith
+
+shared-slice-read-byte-2 : tie.Need-shared-slice-read-byte-2 Inv-loop μ-loop
+shared-slice-read-byte-2 c =
+    let turn = c .before .before .before .before in
+    let start = turn .before .before .before .before in
+    omega (arith, turn .loop .inv .1 .at-place, start .pre .1 .long)
+
+byte-requires-2 : tie.Need-byte-requires-2 Inv-loop μ-loop
+byte-requires-2 c κs = omega arith
+
+add-byte-2 : tie.Need-add-byte-2 Inv-loop μ-loop
+add-byte-2 c = omega arith
+
+shared-slice-read-byte-3 : tie.Need-shared-slice-read-byte-3 Inv-loop μ-loop
+shared-slice-read-byte-3 c =
+    let turn = c .before .before .before .before .before .before in
+    let start = turn .before .before .before .before in
+    omega (arith, turn .loop .inv .1 .at-place, start .pre .1 .long)
+
+byte-requires-3 : tie.Need-byte-requires-3 Inv-loop μ-loop
+byte-requires-3 c κs = omega arith
+
+narrow-run-requires : tie.Need-narrow-run-requires Inv-loop μ-loop
+narrow-run-requires c κs =
+    let after-byte = c .before .before .before .before .before in
+    let turn = after-byte .before .before .before in
+    let b = turn .before .before .before .before in
+    let i = turn .loop .inv .1 in
+    let first = c .before .before .before .byte2 .ensures in
+    let last = c .before .byte3 .ensures in
+    let place = i .at-place in
+    let order = b .pre .1 .order (turn .loop .i) (omega arith) in
+    let same : getD (b .args .sweeps .now) (turn .loop .p + 1) 0 ≤ getD (b .args .sweeps .now) (turn .loop .p + 2) 0 = rw place order in
+    (omega (arith, i .sized), (omega (arith, after-byte .byte .ensures), (omega (arith, first .0, last .0, same), omega (arith, last .1))))
+
+add-p : tie.Need-add-p Inv-loop μ-loop
+add-p c = omega arith
+
+add-i : tie.Need-add-i Inv-loop μ-loop
+add-i c = omega arith
+
+loop-less : tie.Need-loop-less Inv-loop μ-loop
+loop-less c = omega arith
+
+loop-again : tie.Need-loop-again Inv-loop μ-loop
+loop-again c =
+    let after-byte3 = c .before .before .before .before in
+    let after-byte2 = after-byte3 .before .before in
+    let after-byte = after-byte2 .before .before in
+    let in-loop = after-byte .before .before in
+    let a = in-loop .before in (
+      omega arith,
+      narrowing-turn _ _ _ _ _ _ _ _ _ _ _ _ _ (in-loop .loop-test .taken)
+          (after-byte .byte .ensures .0) (after-byte2 .byte2 .ensures .0) (after-byte3 .byte3 .ensures .0)
+          (c .before .before .narrow-run .ensures) (a .loop .inv .1),
+    )
+
+same-length : tie.Need-same-length Inv-loop μ-loop
+same-length c = c .before .loop .inv .1 .sized
+
+returns : tie.Need-returns Inv-loop μ-loop
+returns c = narrowing-end _ _ _ _ _ _ _ _ _ (omega arith) (c .before .loop .inv .1)
+
+pub allow-one-spec : {M : Type 1} → statement M
+allow-one-spec =
+    tie.close
+    (tie.spec
+    Inv-loop
+    μ-loop
+    loop-holds
+    shared-slice-read-byte
+    byte-requires
+    add-byte
+    shared-slice-read-byte-2
+    byte-requires-2
+    add-byte-2
+    shared-slice-read-byte-3
+    byte-requires-3
+    narrow-run-requires
+    add-p
+    add-i
+    loop-less
+    loop-again
+    same-length
+    returns)

@@ -1,0 +1,41 @@
+-- A site's states and motions in arrays of numbers: two numbers a state (cell, speed) and five a motion (from, to, span, the place of
+-- its sweeps and how many there are).
+-- Assumes nothing.
+use Prim.Native.Nat.{ℕ, _+_, _*_, _≤_, _<_}
+use mathlib.Core.List.{List}
+use lib.ListN.{length, getD}
+
+abbrev pub cellAt : List ℕ → ℕ → ℕ
+cellAt st s = getD st (s * 2) 0
+
+abbrev pub speedAt : List ℕ → ℕ → ℕ
+speedAt st s = getD st (s * 2 + 1) 0
+
+abbrev pub fromAt : List ℕ → ℕ → ℕ
+fromAt mv m = getD mv (m * 5) 0
+
+abbrev pub toAt : List ℕ → ℕ → ℕ
+toAt mv m = getD mv (m * 5 + 1) 0
+
+abbrev pub spanAt : List ℕ → ℕ → ℕ
+spanAt mv m = getD mv (m * 5 + 2) 0
+
+abbrev pub placeAt : List ℕ → ℕ → ℕ
+placeAt mv m = getD mv (m * 5 + 3) 0
+
+abbrev pub countAt : List ℕ → ℕ → ℕ
+countAt mv m = getD mv (m * 5 + 4) 0
+
+-- ---- what keeps each index in range
+
+pub record States (n : ℕ) (st : List ℕ) : Type 0 where
+  pub few : n ≤ 256
+  pub long : n * 2 ≤ length st
+  pub cell : (s : ℕ) → s < n → cellAt st s < 256
+
+pub record Motions (k : ℕ) (mv : List ℕ) : Type 0 where
+  pub few : k ≤ 2000
+  pub long : k * 5 ≤ length mv
+  pub from : (m : ℕ) → m < k → fromAt mv m < 256
+  pub to : (m : ℕ) → m < k → toAt mv m < 256
+  pub span : (m : ℕ) → m < k → (1 ≤ spanAt mv m) × (spanAt mv m ≤ 255)
