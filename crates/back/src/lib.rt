@@ -17,6 +17,7 @@ ghost use Rattle.back.specs.Words.{waitHit, moveHit, firstMove, arrivalI
 // The first tick from `tick` on at which the goal is reached, or the tick after the horizon.
 pub fn arrival(reached: &[u64], goal: usize, tick: usize, horizon: usize) -> usize
     requires { ⌜ (goal * 16 + 16 ≤ length (now reached)) × ((tick ≤ horizon) × (horizon ≤ 1000)) ⌝ }
+    ensures { λ r. ⌜ tick ≤ r ⌝ }
     ensures { λ r. ⌜ ((site : Site) (f : Free) (start : ℕ) → WellFormed site → site .horizon ≡ horizon
         → ReachedRows site f (node start tick) (now (reached .entry))
         → arrivalIn site f (node start tick) (horizon - tick) goal ≡ cond (leb r horizon) (some (r - tick)) none) ⌝ }

@@ -9,22 +9,24 @@ use Rattle.back.proofs.arrival.Statement.{statement}
 use Rattle.back.proofs.arrival.Tie as tie
 
 abbrev Inv-loop : tie.InvT-loop
-Inv-loop reached goal tick horizon t₀ t = (t ≤ horizon + 1) × Left (has reached goal) tick horizon t
+Inv-loop reached goal tick horizon t₀ t = (t ≤ horizon + 1) × (tick ≤ t) × Left (has reached goal) tick horizon t
 
 abbrev μ-loop : tie.MeasureT-loop
 μ-loop reached goal tick horizon t₀ t = horizon + 1 - t
 
 loop-holds : tie.Need-loop-holds Inv-loop μ-loop
-loop-holds c = (omega arith, refl)
+loop-holds c = (omega arith, omega arith, refl)
 
 is-set-requires : tie.Need-is-set-requires Inv-loop μ-loop
 is-set-requires c κs = omega arith
 
 returns : tie.Need-returns Inv-loop μ-loop
 returns c =
-    let b = c .before .before .before .before .before .args in
-    arrival-says (b .reached .now) (b .goal) (b .tick) (b .horizon) _ (omega arith)
-    (first-hit (has (b .reached .now) (b .goal)) _ _ _ _ (omega arith) (c .before .is-set .ensures) (c .if1 .taken) (c .before .before .before .loop .inv .1))
+    let b = c .before .before .before .before .before .args in (
+      omega arith,
+      arrival-says (b .reached .now) (b .goal) (b .tick) (b .horizon) _ (omega arith)
+          (first-hit (has (b .reached .now) (b .goal)) _ _ _ _ (omega arith) (c .before .is-set .ensures) (c .if1 .taken) (c .before .before .before .loop .inv .2)),
+    )
 
 add-t : tie.Need-add-t Inv-loop μ-loop
 add-t c = omega arith
@@ -35,13 +37,15 @@ loop-less c = omega arith
 loop-again : tie.Need-loop-again Inv-loop μ-loop
 loop-again c =
     let start = c .before .before .before .before .before in
-    (omega arith, first-turn (has (start .args .reached .now) (start .args .goal)) _ _ _ _ (omega arith) (c .before .is-set .ensures) (c .if1 .left) (c .before .before .before .loop .inv .1))
+    (omega arith, omega arith, first-turn (has (start .args .reached .now) (start .args .goal)) _ _ _ _ (omega arith) (c .before .is-set .ensures) (c .if1 .left) (c .before .before .before .loop .inv .2))
 
 returns-2 : tie.Need-returns-2 Inv-loop μ-loop
 returns-2 c =
-    let b = c .before .before .before .args in
-    arrival-says (b .reached .now) (b .goal) (b .tick) (b .horizon) _ (omega arith)
-    (first-none (has (b .reached .now) (b .goal)) (b .tick) (b .horizon) (c .before .loop .t) (omega arith) (c .before .loop .inv .1))
+    let b = c .before .before .before .args in (
+      omega arith,
+      arrival-says (b .reached .now) (b .goal) (b .tick) (b .horizon) _ (omega arith)
+          (first-none (has (b .reached .now) (b .goal)) (b .tick) (b .horizon) (c .before .loop .t) (omega arith) (c .before .loop .inv .2)),
+    )
 
 pub arrival-spec : {M : Type 1} → statement M
 arrival-spec =

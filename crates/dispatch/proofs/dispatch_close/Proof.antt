@@ -1,0 +1,25 @@
+use mathlib.Core.Path.{ap, _∙_}
+use borrow.Author.Needs.{needs}
+use Rattle.dispatch.specs.Answers.{numberOf}
+use Rattle.dispatch.proofs.Laws.{answer-number}
+use Rattle.dispatch.proofs.dispatch_close.Statement.{statement}
+use Rattle.dispatch.proofs.dispatch_close.Tie as tie
+use Rattle.dispatch.proofs.dispatch_close.Reads as reads
+use Rattle.dispatch.proofs.dispatch_close.Lts as lts
+use Rattle.dispatch.proofs.answer_word.Reads as answer-word-reads
+use Rattle.dispatch.proofs.close.Reads as close-reads
+
+close-requires : tie.Need-close-requires
+close-requires c κs = search needs
+
+answer-word-requires : tie.Need-answer-word-requires
+answer-word-requires c κs = search needs
+
+same-length : tie.Need-same-length
+same-length c = search needs
+
+returns : tie.Need-returns
+returns c = let called = c .before .before .before in (c .answer-word .ensures ∙ ap numberOf (called .close .ensures .0) ∙ answer-number _, called .close .ensures .1)
+
+pub dispatch-close-spec : {M : Type 1} → statement M
+dispatch-close-spec = tie.close (tie.spec close-requires answer-word-requires same-length returns)

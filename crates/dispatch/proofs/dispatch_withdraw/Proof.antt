@@ -1,0 +1,26 @@
+use mathlib.Core.Path.{ap, _∙_}
+use borrow.Author.Needs.{needs}
+use Rattle.dispatch.specs.Answers.{numberOf}
+use Rattle.dispatch.proofs.Laws.{answer-number}
+use Rattle.dispatch.proofs.dispatch_withdraw.Statement.{statement}
+use Rattle.dispatch.proofs.dispatch_withdraw.Tie as tie
+use Rattle.dispatch.proofs.dispatch_withdraw.Reads as reads
+use Rattle.dispatch.proofs.dispatch_withdraw.Lts as lts
+use Rattle.dispatch.proofs.answer_word.Reads as answer-word-reads
+use Rattle.dispatch.proofs.withdraw.Reads as withdraw-reads
+
+withdraw-requires : tie.Need-withdraw-requires
+withdraw-requires c κs = search needs
+
+answer-word-requires : tie.Need-answer-word-requires
+answer-word-requires c κs = search needs
+
+same-length : tie.Need-same-length
+same-length c = search needs
+
+returns : tie.Need-returns
+returns c = let called = c .before .before .before in (c .answer-word .ensures ∙ ap numberOf (called .withdraw .ensures .0) ∙ answer-number _, called .withdraw .ensures .1)
+
+pub dispatch-withdraw-spec : {M : Type 1} → statement M
+dispatch-withdraw-spec =
+    tie.close (tie.spec withdraw-requires answer-word-requires same-length returns)

@@ -1,0 +1,44 @@
+-- The answers of the public calls: document 01's number and values for each case, and the case for each number.
+-- Assumes nothing.
+use Prim.Native.Nat.{ℕ, zero, suc, _*_}
+use mathlib.Core.List.{List, [], _∷_}
+use lib.ListN.{getD}
+use Rattle.meaning.specs.Calls.{Done}
+use Rattle.dispatch.specs.declared.Answer.{Answer}
+use Rattle.dispatch.specs.declared.Answer.the-variants as A
+use Rattle.dispatch.specs.declared.Counted.{Counted}
+use Rattle.dispatch.specs.declared.Counted.the-variants as C
+
+-- ---- open, close, withdraw: the number alone
+
+abbrev pub numberOf : Answer → ℕ
+numberOf A.Accepted = 0
+numberOf (A.Refused n) = n
+
+-- no accepted call is Refused(0)
+abbrev pub answerOf : ℕ → Answer
+answerOf zero = A.Accepted
+answerOf (suc n) = A.Refused (suc n)
+
+-- ---- interval: the number, and beside 0 the count
+
+abbrev pub countedNumber : Counted → ℕ
+countedNumber (C.Counted n) = 0
+countedNumber (C.Refused n) = n
+
+abbrev pub countedValues : Counted → List ℕ
+countedValues (C.Counted n) = n ∷ []
+countedValues (C.Refused n) = []
+
+abbrev pub countedBy : ℕ → List ℕ → Counted
+countedBy zero values = C.Counted (getD values 0 0)
+countedBy (suc n) values = C.Refused (suc n)
+
+abbrev pub countedOf : Done → Counted
+countedOf d = countedBy (d .number) (d .values)
+
+-- ---- for C: one word, the number, and beside 0 the count times 2 ^ 8
+
+abbrev pub countedWord : Counted → ℕ
+countedWord (C.Counted n) = n * 256
+countedWord (C.Refused n) = n

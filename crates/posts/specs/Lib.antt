@@ -1,0 +1,2 @@
+pub mod Tail
+pub mod Work

@@ -1,0 +1,4 @@
+pub mod FoundLaws
+pub mod GoingLaws
+pub mod StackLaws
+pub mod TurnLaws

@@ -1,0 +1,44 @@
+/* The release desk's calls for C. A slice is a pointer and a number of elements; a null pointer goes with 0.
+ *
+ * A call returns one word: the refusal's number in its low 8 bits, 0 if the call is accepted. An accepted
+ * dispatch_interval has the number of intervals in the bits from 8 on. A refusal is its number alone and
+ * leaves all that was lent as it was.
+ *
+ * What each call returns and writes is proved: crates/dispatch/src/lib.rt has the contracts. */
+#ifndef DISPATCH_H
+#define DISPATCH_H
+
+#include <stddef.h>
+#include <stdint.h>
+
+#ifdef __cplusplus
+extern "C" {
+#endif
+
+/* Sets every byte of the board to 0. */
+uint64_t dispatch_open(const uint8_t *site, size_t site_len, uint8_t *board, size_t board_len);
+
+/* Writes the first and last tick of each safe interval of the cell into out. */
+uint64_t dispatch_interval(const uint8_t *site, size_t site_len, const uint8_t *board, size_t board_len,
+                           uint16_t cell, uint16_t *out, size_t out_len);
+
+/* Answers as dispatch_post would, and writes nothing. */
+uint64_t dispatch_audit(const uint8_t *site, size_t site_len, const uint8_t *board, size_t board_len,
+                        const uint8_t *light, size_t light_len);
+
+/* Writes the light's tug over the pairs that its plan holds, and adds 1 to the edition. */
+uint64_t dispatch_post(const uint8_t *site, size_t site_len, uint8_t *board, size_t board_len,
+                       const uint8_t *light, size_t light_len);
+
+/* Writes the closure over the cell's ticks first to last, and adds 1 to the edition. */
+uint64_t dispatch_close(const uint8_t *site, size_t site_len, uint8_t *board, size_t board_len,
+                        uint8_t holder, uint16_t cell, uint16_t first, uint16_t last);
+
+/* Clears every byte of one holder, and adds 1 to the edition. */
+uint64_t dispatch_withdraw(const uint8_t *site, size_t site_len, uint8_t *board, size_t board_len, uint8_t holder);
+
+#ifdef __cplusplus
+}
+#endif
+
+#endif
