@@ -13,7 +13,7 @@ use Rattle.meaning.proofs.AreaLaws.{BoardCall, board-alone, interval-alone}
 use Rattle.meaning.proofs.Theorems.{demands, exact-demands}
 use Rattle.dispatch.specs.declared.Answer.{Answer}
 use Rattle.dispatch.specs.declared.Counted.{Counted}
-use Rattle.dispatch.specs.Answers.{numberOf, answerOf, countedNumber, countedValues, countedOf}
+use Rattle.dispatch.specs.Answers.{numberOf, answerOf, countedNumber, countedValues}
 use Rattle.dispatch.proofs.Laws.{answer-number, counted-number, counted-values}
 use Rattle.dispatch.proofs.open.Reads as open-reads
 use Rattle.dispatch.proofs.interval.Reads as interval-reads
