@@ -1,8 +1,10 @@
 /* The release desk's calls for C. A slice is a pointer and a number of elements; a null pointer goes with 0.
  *
  * A call returns one word: the refusal's number in its low 8 bits, 0 if the call is accepted. An accepted
- * dispatch_interval has the number of intervals in the bits from 8 on. A refusal is its number alone and
- * leaves all that was lent as it was.
+ * dispatch_interval has the number of intervals in the bits from 8 on; a granted dispatch_route has the
+ * light's length in bytes in the bits 8 to 31, and the arrival in the bits from 32 on. A refusal is its
+ * number alone and leaves all that was lent as it was, but for 18: a completed search without a plan leaves
+ * the working words that it needs zero.
  *
  * What each call returns and writes is proved: crates/dispatch/src/lib.rt has the contracts. */
 #ifndef DISPATCH_H
@@ -21,6 +23,12 @@ uint64_t dispatch_open(const uint8_t *site, size_t site_len, uint8_t *board, siz
 /* Writes the first and last tick of each safe interval of the cell into out. */
 uint64_t dispatch_interval(const uint8_t *site, size_t site_len, const uint8_t *board, size_t board_len,
                            uint16_t cell, uint16_t *out, size_t out_len);
+
+/* Writes the light of the traced plan with the least arrival into out, which has at least 16 + 5 * H bytes. The working
+ * area has at least S * (H + 1) words, which are zero afterwards. */
+uint64_t dispatch_route(const uint8_t *site, size_t site_len, const uint8_t *board, size_t board_len,
+                        uint8_t tug, uint16_t start, uint16_t tick, uint16_t goal,
+                        uint8_t *out, size_t out_len, uint32_t *work, size_t work_len);
 
 /* Answers as dispatch_post would, and writes nothing. */
 uint64_t dispatch_audit(const uint8_t *site, size_t site_len, const uint8_t *board, size_t board_len,

@@ -1,6 +1,6 @@
 -- The answers of the public calls: document 01's number and values for each case, and the case for each number.
 -- Assumes nothing.
-use Prim.Native.Nat.{ℕ, zero, suc, _*_}
+use Prim.Native.Nat.{ℕ, zero, suc, _+_, _*_}
 use mathlib.Core.List.{List, [], _∷_}
 use lib.ListN.{getD}
 use Rattle.meaning.specs.Calls.{Done}
@@ -8,6 +8,8 @@ use Rattle.dispatch.specs.declared.Answer.{Answer}
 use Rattle.dispatch.specs.declared.Answer.the-variants as A
 use Rattle.dispatch.specs.declared.Counted.{Counted}
 use Rattle.dispatch.specs.declared.Counted.the-variants as C
+use Rattle.dispatch.specs.declared.Granted.{Granted}
+use Rattle.dispatch.specs.declared.Granted.the-variants as G
 
 -- ---- open, close, withdraw: the number alone
 
@@ -37,8 +39,29 @@ countedBy (suc n) values = C.Refused (suc n)
 abbrev pub countedOf : Done → Counted
 countedOf d = countedBy (d .number) (d .values)
 
--- ---- for C: one word, the number, and beside 0 the count times 2 ^ 8
+-- ---- route: the number, and beside 0 the light's length and the arrival
+
+abbrev pub grantedNumber : Granted → ℕ
+grantedNumber (G.Granted len arrival) = 0
+grantedNumber (G.Refused n) = n
+
+abbrev pub grantedValues : Granted → List ℕ
+grantedValues (G.Granted len arrival) = len ∷ arrival ∷ []
+grantedValues (G.Refused n) = []
+
+abbrev pub grantedBy : ℕ → List ℕ → Granted
+grantedBy zero values = G.Granted (getD values 0 0) (getD values 1 0)
+grantedBy (suc n) values = G.Refused (suc n)
+
+abbrev pub grantedOf : Done → Granted
+grantedOf d = grantedBy (d .number) (d .values)
+
+-- ---- for C: one word, the number, and beside 0 the count or the light's length times 2 ^ 8 and the arrival times 2 ^ 32
 
 abbrev pub countedWord : Counted → ℕ
 countedWord (C.Counted n) = n * 256
 countedWord (C.Refused n) = n
+
+abbrev pub grantedWord : Granted → ℕ
+grantedWord (G.Granted len arrival) = len * 256 + arrival * 4294967296
+grantedWord (G.Refused n) = n

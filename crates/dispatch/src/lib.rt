@@ -1,10 +1,12 @@
 // The public calls. Each has two halves: the checks, which only look, and the work of a call that passed them all.
 use calls::Check;
+use find::Found;
 ghost use mathlib.Core.Path.{_≡_};
 ghost use mathlib.Core.List.{[]};
-ghost use Rattle.meaning.specs.Calls.{opening, interval, listed, audit, post, close, withdraw, meant};
+ghost use Rattle.meaning.specs.Calls.{opening, interval, listed, route, audit, post, close, withdraw, meant};
 ghost use Rattle.meaning.specs.Calls.{lends, onBoard};
-ghost use Rattle.dispatch.specs.Answers.{numberOf, answerOf, countedOf, countedWord};
+ghost use Rattle.routes.specs.Checks.{nodeAt};
+ghost use Rattle.dispatch.specs.Answers.{numberOf, answerOf, countedOf, countedWord, grantedOf, grantedWord};
 
 // The answer of a call that returns its number alone.
 pub enum Answer {
@@ -15,6 +17,12 @@ pub enum Answer {
 // The answer of interval: how many intervals there are.
 pub enum Counted {
     Counted(u16),
+    Refused(u8),
+}
+
+// The answer of route: the light's length in bytes and the arrival.
+pub enum Granted {
+    Granted(u16, u16),
     Refused(u8),
 }
 
@@ -44,6 +52,33 @@ pub fn interval(file: &[u8], board: &[u8], cell: u16, out: &mut [u16]) -> Counte
             Counted::Counted(count)
         }
         Check::Refused(n) => Counted::Refused(n),
+    }
+}
+
+// Writes the light of the traced plan with the least arrival, and leaves the working words that a search needs zero.
+pub fn route(
+    file: &[u8],
+    board: &[u8],
+    tug: u8,
+    start: u16,
+    tick: u16,
+    goal: u16,
+    out: &mut [u8],
+    work: &mut [u32],
+) -> Granted
+    ensures { λ r. ⌜ r ≡ grantedOf (meant (now (file .entry)) (lends (now (board .entry)) (now (out .entry)) (now (work .entry))) (listed (route tug (nodeAt start tick) goal))) ⌝ }
+    ensures { λ _. ⌜ now (out .exit) ≡ meant (now (file .entry)) (lends (now (board .entry)) (now (out .entry)) (now (work .entry))) (listed (route tug (nodeAt start tick) goal)) .lent .out ⌝ }
+    ensures { λ _. ⌜ now (work .exit) ≡ meant (now (file .entry)) (lends (now (board .entry)) (now (out .entry)) (now (work .entry))) (listed (route tug (nodeAt start tick) goal)) .lent .words ⌝ }
+{
+    match routes::check_route(file, board, tug, start, tick, goal, out.len(), work.len()) {
+        Check::Passed(l) => {
+            write::zero_words(work, l.states * (l.horizon + 1));
+            match find::find(file, l, board, tug, start, tick, goal, out) {
+                Found::Route(len, arrival) => Granted::Granted(len, arrival),
+                Found::Nothing => Granted::Refused(18),
+            }
+        }
+        Check::Refused(n) => Granted::Refused(n),
     }
 }
 
@@ -119,6 +154,15 @@ fn counted_word(c: Counted) -> u64
     }
 }
 
+fn granted_word(g: Granted) -> u64
+    ensures { λ r. ⌜ r ≡ grantedWord g ⌝ }
+{
+    match g {
+        Granted::Granted(len, arrival) => (len as u64) * 256 + (arrival as u64) * 4294967296,
+        Granted::Refused(n) => n as u64,
+    }
+}
+
 #[no_mangle]
 pub extern "C" fn dispatch_open(file: &[u8], board: &mut [u8]) -> u64
     ensures { λ r. ⌜ r ≡ meant (now (file .entry)) (onBoard (now (board .entry))) opening .number ⌝ }
@@ -133,6 +177,24 @@ pub extern "C" fn dispatch_interval(file: &[u8], board: &[u8], cell: u16, out: &
     ensures { λ _. ⌜ now (out .exit) ≡ meant (now (file .entry)) (lends (now (board .entry)) (now (out .entry)) []) (interval cell) .lent .out ⌝ }
 {
     counted_word(interval(file, board, cell, out))
+}
+
+#[no_mangle]
+pub extern "C" fn dispatch_route(
+    file: &[u8],
+    board: &[u8],
+    tug: u8,
+    start: u16,
+    tick: u16,
+    goal: u16,
+    out: &mut [u8],
+    work: &mut [u32],
+) -> u64
+    ensures { λ r. ⌜ r ≡ grantedWord (grantedOf (meant (now (file .entry)) (lends (now (board .entry)) (now (out .entry)) (now (work .entry))) (listed (route tug (nodeAt start tick) goal)))) ⌝ }
+    ensures { λ _. ⌜ now (out .exit) ≡ meant (now (file .entry)) (lends (now (board .entry)) (now (out .entry)) (now (work .entry))) (listed (route tug (nodeAt start tick) goal)) .lent .out ⌝ }
+    ensures { λ _. ⌜ now (work .exit) ≡ meant (now (file .entry)) (lends (now (board .entry)) (now (out .entry)) (now (work .entry))) (listed (route tug (nodeAt start tick) goal)) .lent .words ⌝ }
+{
+    granted_word(route(file, board, tug, start, tick, goal, out, work))
 }
 
 #[no_mangle]

@@ -1,0 +1,28 @@
+use mathlib.Core.Path.{ap, _∙_}
+use borrow.Author.Needs.{needs}
+use Rattle.dispatch.specs.Answers.{grantedWord}
+use Rattle.dispatch.proofs.dispatch_route.Statement.{statement}
+use Rattle.dispatch.proofs.dispatch_route.Tie as tie
+use Rattle.dispatch.proofs.dispatch_route.Reads as reads
+use Rattle.dispatch.proofs.dispatch_route.Lts as lts
+use Rattle.dispatch.proofs.granted_word.Reads as granted-word-reads
+use Rattle.dispatch.proofs.route.Reads as route-reads
+
+route-requires : tie.Need-route-requires
+route-requires c κs = search needs
+
+granted-word-requires : tie.Need-granted-word-requires
+granted-word-requires c κs = search needs
+
+same-length : tie.Need-same-length
+same-length c = search needs
+
+same-length-2 : tie.Need-same-length-2
+same-length-2 c = search needs
+
+returns : tie.Need-returns
+returns c = let called = c .before .before .before .before .before in (c .granted-word .ensures ∙ ap grantedWord (called .route .ensures .0), called .route .ensures .1)
+
+pub dispatch-route-spec : {M : Type 1} → statement M
+dispatch-route-spec =
+    tie.close (tie.spec route-requires granted-word-requires same-length same-length-2 returns)
