@@ -1,10 +1,10 @@
+-- `dispatch::counted_word` meets its contract.
+-- Assumes nothing.
 use mathlib.Core.Path.{ap, sym}
 use borrow.Author.Needs.{needs}
 use Rattle.dispatch.specs.Answers.{countedWord}
 use Rattle.dispatch.proofs.counted_word.Statement.{statement}
 use Rattle.dispatch.proofs.counted_word.Tie as tie
-use Rattle.dispatch.proofs.counted_word.Reads as reads
-use Rattle.dispatch.proofs.counted_word.Lts as lts
 
 enum-known-c : tie.Need-enum-known-c
 enum-known-c c = search needs

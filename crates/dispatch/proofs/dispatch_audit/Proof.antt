@@ -1,13 +1,11 @@
+-- `dispatch::dispatch_audit` meets its contract.
+-- Assumes nothing.
 use mathlib.Core.Path.{ap, _∙_}
 use borrow.Author.Needs.{needs}
 use Rattle.dispatch.specs.Answers.{numberOf}
 use Rattle.dispatch.proofs.Laws.{answer-number}
 use Rattle.dispatch.proofs.dispatch_audit.Statement.{statement}
 use Rattle.dispatch.proofs.dispatch_audit.Tie as tie
-use Rattle.dispatch.proofs.dispatch_audit.Reads as reads
-use Rattle.dispatch.proofs.dispatch_audit.Lts as lts
-use Rattle.dispatch.proofs.answer_word.Reads as answer-word-reads
-use Rattle.dispatch.proofs.audit.Reads as audit-reads
 
 audit-requires : tie.Need-audit-requires
 audit-requires c κs = search needs

@@ -1,13 +1,11 @@
+-- `dispatch::dispatch_close` meets its contract.
+-- Assumes nothing.
 use mathlib.Core.Path.{ap, _∙_}
 use borrow.Author.Needs.{needs}
 use Rattle.dispatch.specs.Answers.{numberOf}
 use Rattle.dispatch.proofs.Laws.{answer-number}
 use Rattle.dispatch.proofs.dispatch_close.Statement.{statement}
 use Rattle.dispatch.proofs.dispatch_close.Tie as tie
-use Rattle.dispatch.proofs.dispatch_close.Reads as reads
-use Rattle.dispatch.proofs.dispatch_close.Lts as lts
-use Rattle.dispatch.proofs.answer_word.Reads as answer-word-reads
-use Rattle.dispatch.proofs.close.Reads as close-reads
 
 close-requires : tie.Need-close-requires
 close-requires c κs = search needs

@@ -1,12 +1,10 @@
+-- `dispatch::dispatch_interval` meets its contract.
+-- Assumes nothing.
 use mathlib.Core.Path.{ap, _∙_}
 use borrow.Author.Needs.{needs}
 use Rattle.dispatch.specs.Answers.{countedWord}
 use Rattle.dispatch.proofs.dispatch_interval.Statement.{statement}
 use Rattle.dispatch.proofs.dispatch_interval.Tie as tie
-use Rattle.dispatch.proofs.dispatch_interval.Reads as reads
-use Rattle.dispatch.proofs.dispatch_interval.Lts as lts
-use Rattle.dispatch.proofs.counted_word.Reads as counted-word-reads
-use Rattle.dispatch.proofs.interval.Reads as interval-reads
 
 interval-requires : tie.Need-interval-requires
 interval-requires c κs = search needs

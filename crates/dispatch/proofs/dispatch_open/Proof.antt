@@ -1,13 +1,11 @@
+-- `dispatch::dispatch_open` meets its contract.
+-- Assumes nothing.
 use mathlib.Core.Path.{ap, _∙_}
 use borrow.Author.Needs.{needs}
 use Rattle.dispatch.specs.Answers.{numberOf}
 use Rattle.dispatch.proofs.Laws.{answer-number}
 use Rattle.dispatch.proofs.dispatch_open.Statement.{statement}
 use Rattle.dispatch.proofs.dispatch_open.Tie as tie
-use Rattle.dispatch.proofs.dispatch_open.Reads as reads
-use Rattle.dispatch.proofs.dispatch_open.Lts as lts
-use Rattle.dispatch.proofs.answer_word.Reads as answer-word-reads
-use Rattle.dispatch.proofs.open.Reads as open-reads
 
 open-requires : tie.Need-open-requires
 open-requires c κs = search needs

@@ -1,13 +1,11 @@
+-- `dispatch::dispatch_post` meets its contract.
+-- Assumes nothing.
 use mathlib.Core.Path.{ap, _∙_}
 use borrow.Author.Needs.{needs}
 use Rattle.dispatch.specs.Answers.{numberOf}
 use Rattle.dispatch.proofs.Laws.{answer-number}
 use Rattle.dispatch.proofs.dispatch_post.Statement.{statement}
 use Rattle.dispatch.proofs.dispatch_post.Tie as tie
-use Rattle.dispatch.proofs.dispatch_post.Reads as reads
-use Rattle.dispatch.proofs.dispatch_post.Lts as lts
-use Rattle.dispatch.proofs.answer_word.Reads as answer-word-reads
-use Rattle.dispatch.proofs.post.Reads as post-reads
 
 post-requires : tie.Need-post-requires
 post-requires c κs = search needs

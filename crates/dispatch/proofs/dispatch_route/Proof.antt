@@ -1,12 +1,10 @@
+-- `dispatch::dispatch_route` meets its contract.
+-- Assumes nothing.
 use mathlib.Core.Path.{ap, _∙_}
 use borrow.Author.Needs.{needs}
 use Rattle.dispatch.specs.Answers.{grantedWord}
 use Rattle.dispatch.proofs.dispatch_route.Statement.{statement}
 use Rattle.dispatch.proofs.dispatch_route.Tie as tie
-use Rattle.dispatch.proofs.dispatch_route.Reads as reads
-use Rattle.dispatch.proofs.dispatch_route.Lts as lts
-use Rattle.dispatch.proofs.granted_word.Reads as granted-word-reads
-use Rattle.dispatch.proofs.route.Reads as route-reads
 
 route-requires : tie.Need-route-requires
 route-requires c κs = search needs

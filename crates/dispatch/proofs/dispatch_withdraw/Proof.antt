@@ -1,13 +1,11 @@
+-- `dispatch::dispatch_withdraw` meets its contract.
+-- Assumes nothing.
 use mathlib.Core.Path.{ap, _∙_}
 use borrow.Author.Needs.{needs}
 use Rattle.dispatch.specs.Answers.{numberOf}
 use Rattle.dispatch.proofs.Laws.{answer-number}
 use Rattle.dispatch.proofs.dispatch_withdraw.Statement.{statement}
 use Rattle.dispatch.proofs.dispatch_withdraw.Tie as tie
-use Rattle.dispatch.proofs.dispatch_withdraw.Reads as reads
-use Rattle.dispatch.proofs.dispatch_withdraw.Lts as lts
-use Rattle.dispatch.proofs.answer_word.Reads as answer-word-reads
-use Rattle.dispatch.proofs.withdraw.Reads as withdraw-reads
 
 withdraw-requires : tie.Need-withdraw-requires
 withdraw-requires c κs = search needs

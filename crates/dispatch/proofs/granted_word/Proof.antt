@@ -1,10 +1,10 @@
+-- `dispatch::granted_word` meets its contract.
+-- Assumes nothing.
 use mathlib.Core.Path.{ap, sym}
 use borrow.Author.Needs.{needs}
 use Rattle.dispatch.specs.Answers.{grantedWord}
 use Rattle.dispatch.proofs.granted_word.Statement.{statement}
 use Rattle.dispatch.proofs.granted_word.Tie as tie
-use Rattle.dispatch.proofs.granted_word.Reads as reads
-use Rattle.dispatch.proofs.granted_word.Lts as lts
 
 enum-known-g : tie.Need-enum-known-g
 enum-known-g c = search needs

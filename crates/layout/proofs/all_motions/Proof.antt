@@ -14,10 +14,6 @@ use Rattle.fields.proofs.Laws.{fields-all-none, fields-all-hit, fields-all-miss
 use native.Mathlib.Omega.{arith}
 use Rattle.layout.proofs.all_motions.Statement.{statement}
 use Rattle.layout.proofs.all_motions.Tie as tie
-use Rattle.layout.proofs.all_motions.Reads as reads
-use Rattle.layout.proofs.all_motions.Lts as lts
-use Rattle.layout.proofs.is_motion.Reads as is-motion-reads
-use Rattle.fields.proofs.next_field.Reads as next-field-reads
 
 abbrev Inv-loop : tie.InvT-loop
 Inv-loop file start at₀ at =

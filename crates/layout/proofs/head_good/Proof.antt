@@ -7,10 +7,6 @@ use native.Mathlib.Omega.{arith}
 use borrow.Author.Needs.{needs}
 use Rattle.layout.proofs.head_good.Statement.{statement}
 use Rattle.layout.proofs.head_good.Tie as tie
-use Rattle.layout.proofs.head_good.Reads as reads
-use Rattle.layout.proofs.head_good.Lts as lts
-use Rattle.fields.proofs.read_item.Reads as read-item-reads
-use Rattle.layout.proofs.head_values.Reads as head-values-reads
 
 read-item-requires : tie.Need-read-item-requires
 read-item-requires c κs = search needs

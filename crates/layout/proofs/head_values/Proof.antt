@@ -10,11 +10,6 @@ use Rattle.layout.specs.Laid.{headValues}
 use borrow.Author.Needs.{needs}
 use Rattle.layout.proofs.head_values.Statement.{statement}
 use Rattle.layout.proofs.head_values.Tie as tie
-use Rattle.layout.proofs.head_values.Reads as reads
-use Rattle.layout.proofs.head_values.Lts as lts
-use Rattle.fields.proofs.byte_at.Reads as byte-at-reads
-use Rattle.fields.proofs.number_at.Reads as number-at-reads
-use Rattle.layout.proofs.in_range.Reads as in-range-reads
 
 number-at-requires : tie.Need-number-at-requires
 number-at-requires c κs = search needs

@@ -4,8 +4,6 @@ use borrow.Author.Tests.{lt-leb, le-leb}
 use Rattle.meaning.specs.Basics.{within}
 use Rattle.layout.proofs.in_range.Statement.{statement}
 use Rattle.layout.proofs.in_range.Tie as tie
-use Rattle.layout.proofs.in_range.Reads as reads
-use Rattle.layout.proofs.in_range.Lts as lts
 
 returns : tie.Need-returns
 unfolding within

@@ -7,10 +7,6 @@ use Rattle.fields.proofs.Laws.{is-end, is-cut, is-field}
 use borrow.Author.Needs.{needs}
 use Rattle.layout.proofs.is_motion.Statement.{statement}
 use Rattle.layout.proofs.is_motion.Tie as tie
-use Rattle.layout.proofs.is_motion.Reads as reads
-use Rattle.layout.proofs.is_motion.Lts as lts
-use Rattle.fields.proofs.read_item.Reads as read-item-reads
-use Rattle.layout.proofs.motion_length.Reads as motion-length-reads
 
 read-item-requires : tie.Need-read-item-requires
 read-item-requires c κs = search needs

@@ -7,9 +7,6 @@ use Rattle.fields.proofs.Laws.{is-end, is-cut, is-field}
 use borrow.Author.Needs.{needs}
 use Rattle.layout.proofs.is_state.Statement.{statement}
 use Rattle.layout.proofs.is_state.Tie as tie
-use Rattle.layout.proofs.is_state.Reads as reads
-use Rattle.layout.proofs.is_state.Lts as lts
-use Rattle.fields.proofs.read_item.Reads as read-item-reads
 
 read-item-requires : tie.Need-read-item-requires
 read-item-requires c κs = search needs

@@ -12,11 +12,6 @@ use borrow.Author.Needs.{needs}
 use native.Mathlib.Omega.{arith}
 use Rattle.layout.proofs.layout_good.Statement.{statement}
 use Rattle.layout.proofs.layout_good.Tie as tie
-use Rattle.layout.proofs.layout_good.Reads as reads
-use Rattle.layout.proofs.layout_good.Lts as lts
-use Rattle.fields.proofs.next_field.Reads as next-field-reads
-use Rattle.layout.proofs.is_state.Reads as is-state-reads
-use Rattle.layout.proofs.motions_laid.Reads as motions-laid-reads
 
 abbrev Inv-loop : tie.InvT-loop
 Inv-loop file start count at₀ left₀ at left =

@@ -13,10 +13,6 @@ use native.Mathlib.Omega.{arith}
 use borrow.Author.Needs.{needs}
 use Rattle.layout.proofs.motion_length.Statement.{statement}
 use Rattle.layout.proofs.motion_length.Tie as tie
-use Rattle.layout.proofs.motion_length.Reads as reads
-use Rattle.layout.proofs.motion_length.Lts as lts
-use Rattle.layout.proofs.in_range.Reads as in-range-reads
-use Rattle.layout.proofs.sweep_count.Reads as sweep-count-reads
 
 sweep-count-requires : tie.Need-sweep-count-requires
 sweep-count-requires c κs = search needs

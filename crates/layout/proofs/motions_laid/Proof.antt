@@ -7,10 +7,6 @@ use lib.Dec.{leb}
 use Rattle.meaning.specs.Site.{motionsLaid}
 use Rattle.layout.proofs.motions_laid.Statement.{statement}
 use Rattle.layout.proofs.motions_laid.Tie as tie
-use Rattle.layout.proofs.motions_laid.Reads as reads
-use Rattle.layout.proofs.motions_laid.Lts as lts
-use Rattle.layout.proofs.all_motions.Reads as all-motions-reads
-use Rattle.fields.proofs.count_fields.Reads as count-fields-reads
 
 all-motions-requires : tie.Need-all-motions-requires
 all-motions-requires c κs = search needs

@@ -11,10 +11,6 @@ use native.Mathlib.Omega.{arith}
 use borrow.Author.Needs.{needs}
 use Rattle.layout.proofs.read_head.Statement.{statement}
 use Rattle.layout.proofs.read_head.Tie as tie
-use Rattle.layout.proofs.read_head.Reads as reads
-use Rattle.layout.proofs.read_head.Lts as lts
-use Rattle.fields.proofs.header_at.Reads as header-at-reads
-use Rattle.fields.proofs.number_at.Reads as number-at-reads
 
 header-at-requires : tie.Need-header-at-requires
 header-at-requires c κs =

@@ -6,8 +6,6 @@ use Rattle.meaning.specs.Site.{sweepCount}
 use native.Mathlib.Omega.{arith}
 use Rattle.layout.proofs.sweep_count.Statement.{statement}
 use Rattle.layout.proofs.sweep_count.Tie as tie
-use Rattle.layout.proofs.sweep_count.Reads as reads
-use Rattle.layout.proofs.sweep_count.Lts as lts
 
 returns : tie.Need-returns
 unfolding sweepCount

@@ -13,13 +13,6 @@ use native.Mathlib.Omega.{arith}
 use borrow.Author.Needs.{needs}
 use Rattle.site.proofs.check_site.Statement.{statement}
 use Rattle.site.proofs.check_site.Tie as tie
-use Rattle.site.proofs.check_site.Reads as reads
-use Rattle.site.proofs.check_site.Lts as lts
-use Rattle.fields.proofs.fields_complete.Reads as fields-complete-reads
-use Rattle.layout.proofs.head_good.Reads as head-good-reads
-use Rattle.layout.proofs.layout_good.Reads as layout-good-reads
-use Rattle.layout.proofs.read_head.Reads as read-head-reads
-use Rattle.site.proofs.check_values.Reads as check-values-reads
 
 returns : tie.Need-returns
 returns c =

@@ -11,12 +11,6 @@ use Rattle.site.proofs.Numbers.{number-5, number-6, number-0, count-is,
 use native.Mathlib.Omega.{arith}
 use Rattle.site.proofs.check_values.Statement.{statement}
 use Rattle.site.proofs.check_values.Tie as tie
-use Rattle.site.proofs.check_values.Reads as reads
-use Rattle.site.proofs.check_values.Lts as lts
-use Rattle.fields.proofs.count_fields.Reads as count-fields-reads
-use Rattle.site.proofs.state_place.Reads as state-place-reads
-use Rattle.site.proofs.motions_good.Reads as motions-good-reads
-use Rattle.site.proofs.states_good.Reads as states-good-reads
 
 state-place-requires : tie.Need-state-place-requires
 state-place-requires c κs =

@@ -4,8 +4,6 @@ use borrow.Author.Tests.{le-ltb, lt-ltb, eq-eqb, ne-eqb}
 use Rattle.meaning.specs.Site.{endsGood}
 use Rattle.site.proofs.ends_good.Statement.{statement}
 use Rattle.site.proofs.ends_good.Tie as tie
-use Rattle.site.proofs.ends_good.Reads as reads
-use Rattle.site.proofs.ends_good.Lts as lts
 
 returns : tie.Need-returns
 unfolding endsGood

@@ -7,9 +7,6 @@ use Rattle.site.proofs.Laws.{laid-few}
 use native.Mathlib.Omega.{arith}
 use Rattle.site.proofs.motion.Statement.{statement}
 use Rattle.site.proofs.motion.Tie as tie
-use Rattle.site.proofs.motion.Reads as reads
-use Rattle.site.proofs.motion.Lts as lts
-use Rattle.site.proofs.read_motion.Reads as read-motion-reads
 
 mul-at : tie.Need-mul-at
 mul-at c =

@@ -10,12 +10,6 @@ use native.Mathlib.Omega.{arith}
 use borrow.Author.Needs.{needs}
 use Rattle.site.proofs.motion_good.Statement.{statement}
 use Rattle.site.proofs.motion_good.Tie as tie
-use Rattle.site.proofs.motion_good.Reads as reads
-use Rattle.site.proofs.motion_good.Lts as lts
-use Rattle.site.proofs.state_cell.Reads as state-cell-reads
-use Rattle.site.proofs.ends_good.Reads as ends-good-reads
-use Rattle.site.proofs.read_motion.Reads as read-motion-reads
-use Rattle.sweeps.proofs.sweeps_pass.Reads as sweeps-pass-reads
 
 read-motion-requires : tie.Need-read-motion-requires
 read-motion-requires c κs = search needs

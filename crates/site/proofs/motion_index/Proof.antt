@@ -9,9 +9,6 @@ use borrow.Author.Needs.{needs}
 use native.Mathlib.Omega.{arith}
 use Rattle.site.proofs.motion_index.Statement.{statement}
 use Rattle.site.proofs.motion_index.Tie as tie
-use Rattle.site.proofs.motion_index.Reads as reads
-use Rattle.site.proofs.motion_index.Lts as lts
-use Rattle.fields.proofs.next_field.Reads as next-field-reads
 
 abbrev Inv-loop : tie.InvT-loop
 Inv-loop file start index₀ at₀ n₀ index at n = Reached file at n × (length index ≡ 2000) × ((k : ℕ) → k < n → MotionPlace file k (getD index k 0))

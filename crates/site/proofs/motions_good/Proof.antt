@@ -14,10 +14,6 @@ use Rattle.site.proofs.Laws.{motions-first, motions-next, motions-hit, 
 use native.Mathlib.Omega.{arith}
 use Rattle.site.proofs.motions_good.Statement.{statement}
 use Rattle.site.proofs.motions_good.Tie as tie
-use Rattle.site.proofs.motions_good.Reads as reads
-use Rattle.site.proofs.motions_good.Lts as lts
-use Rattle.fields.proofs.next_field.Reads as next-field-reads
-use Rattle.site.proofs.motion_good.Reads as motion-good-reads
 
 abbrev Inv-loop : tie.InvT-loop
 Inv-loop file start count cells at₀ at =

@@ -7,11 +7,6 @@ use native.Mathlib.Omega.{arith}
 use borrow.Author.Needs.{needs}
 use Rattle.site.proofs.read_motion.Statement.{statement}
 use Rattle.site.proofs.read_motion.Tie as tie
-use Rattle.site.proofs.read_motion.Reads as reads
-use Rattle.site.proofs.read_motion.Lts as lts
-use Rattle.fields.proofs.header_at.Reads as header-at-reads
-use Rattle.fields.proofs.number_at.Reads as number-at-reads
-use Rattle.layout.proofs.sweep_count.Reads as sweep-count-reads
 
 header-at-requires : tie.Need-header-at-requires
 header-at-requires c κs = search needs

@@ -7,9 +7,6 @@ use Rattle.layout.proofs.Laws.{laid-place, laid-cell}
 use native.Mathlib.Omega.{arith}
 use Rattle.site.proofs.state_cell.Statement.{statement}
 use Rattle.site.proofs.state_cell.Tie as tie
-use Rattle.site.proofs.state_cell.Reads as reads
-use Rattle.site.proofs.state_cell.Lts as lts
-use Rattle.site.proofs.state_place.Reads as state-place-reads
 
 state-place-requires : tie.Need-state-place-requires
 state-place-requires c κs = laid-place (c .before .args .file .now) (c .before .pre .0) (c .before .args .i) (c .before .pre .1) .0

@@ -7,9 +7,6 @@ use Rattle.layout.proofs.Laws.{laid-place, laid-speed}
 use native.Mathlib.Omega.{arith}
 use Rattle.site.proofs.state_speed.Statement.{statement}
 use Rattle.site.proofs.state_speed.Tie as tie
-use Rattle.site.proofs.state_speed.Reads as reads
-use Rattle.site.proofs.state_speed.Lts as lts
-use Rattle.site.proofs.state_place.Reads as state-place-reads
 
 state-place-requires : tie.Need-state-place-requires
 state-place-requires c κs = laid-place (c .before .args .file .now) (c .before .pre .0) (c .before .args .i) (c .before .pre .1) .0

@@ -12,9 +12,6 @@ use borrow.Author.Needs.{needs}
 use native.Mathlib.Omega.{arith}
 use Rattle.site.proofs.states_good.Statement.{statement}
 use Rattle.site.proofs.states_good.Tie as tie
-use Rattle.site.proofs.states_good.Reads as reads
-use Rattle.site.proofs.states_good.Lts as lts
-use Rattle.site.proofs.state_cell.Reads as state-cell-reads
 
 abbrev Inv-loop : tie.InvT-loop
 Inv-loop file count cells i₀ i =

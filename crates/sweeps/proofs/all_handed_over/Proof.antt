@@ -12,9 +12,6 @@ use Rattle.sweeps.proofs.Laws.{below-zero, below-hit, below-miss}
 use native.Mathlib.Omega.{arith}
 use Rattle.sweeps.proofs.all_handed_over.Statement.{statement}
 use Rattle.sweeps.proofs.all_handed_over.Tie as tie
-use Rattle.sweeps.proofs.all_handed_over.Reads as reads
-use Rattle.sweeps.proofs.all_handed_over.Lts as lts
-use Rattle.sweeps.proofs.handed_over.Reads as handed-over-reads
 
 abbrev Inv-loop : tie.InvT-loop
 Inv-loop file at count span j₀ j = (j ≤ span) × (allBelow (handover (sweepsAt file at count)) j ≡ true)

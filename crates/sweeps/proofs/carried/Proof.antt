@@ -4,9 +4,6 @@ use borrow.Author.Needs.{needs}
 use mathlib.Core.Path.{sym, _∙_}
 use Rattle.sweeps.proofs.carried.Statement.{statement}
 use Rattle.sweeps.proofs.carried.Tie as tie
-use Rattle.sweeps.proofs.carried.Reads as reads
-use Rattle.sweeps.proofs.carried.Lts as lts
-use Rattle.sweeps.proofs.used.Reads as used-reads
 
 used-requires : tie.Need-used-requires
 used-requires c κs = search needs

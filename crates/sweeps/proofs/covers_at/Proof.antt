@@ -4,8 +4,6 @@ use borrow.Author.Needs.{needs}
 use borrow.Author.Tests.{ne-eqb, eq-eqb, lt-leb, le-leb}
 use Rattle.sweeps.proofs.covers_at.Statement.{statement}
 use Rattle.sweeps.proofs.covers_at.Tie as tie
-use Rattle.sweeps.proofs.covers_at.Reads as reads
-use Rattle.sweeps.proofs.covers_at.Lts as lts
 
 shared-slice-read-if1 : tie.Need-shared-slice-read-if1
 shared-slice-read-if1 c = search needs

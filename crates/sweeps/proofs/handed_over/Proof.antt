@@ -12,9 +12,6 @@ use Rattle.sweeps.proofs.Laws.{any-none, any-hit, any-miss}
 use native.Mathlib.Omega.{arith}
 use Rattle.sweeps.proofs.handed_over.Statement.{statement}
 use Rattle.sweeps.proofs.handed_over.Tie as tie
-use Rattle.sweeps.proofs.handed_over.Reads as reads
-use Rattle.sweeps.proofs.handed_over.Lts as lts
-use Rattle.sweeps.proofs.carried.Reads as carried-reads
 
 abbrev Inv-loop : tie.InvT-loop
 Inv-loop file at count j p₀ left₀ p left =

@@ -4,8 +4,6 @@ use borrow.Author.Needs.{needs}
 use borrow.Author.Tests.{le-ltb, lt-ltb, lt-leb, le-leb}
 use Rattle.sweeps.proofs.sweep_good.Statement.{statement}
 use Rattle.sweeps.proofs.sweep_good.Tie as tie
-use Rattle.sweeps.proofs.sweep_good.Reads as reads
-use Rattle.sweeps.proofs.sweep_good.Lts as lts
 
 shared-slice-read-if1 : tie.Need-shared-slice-read-if1
 shared-slice-read-if1 c = search needs

@@ -12,9 +12,6 @@ use borrow.Author.Tests.{not-true, not-false}
 use native.Mathlib.Omega.{arith}
 use Rattle.sweeps.proofs.sweeps_good.Statement.{statement}
 use Rattle.sweeps.proofs.sweeps_good.Tie as tie
-use Rattle.sweeps.proofs.sweeps_good.Reads as reads
-use Rattle.sweeps.proofs.sweeps_good.Lts as lts
-use Rattle.sweeps.proofs.sweep_good.Reads as sweep-good-reads
 
 abbrev Inv-loop : tie.InvT-loop
 Inv-loop file at count cells span p₀ left₀ p left = (p + 3 * left ≤ length file) × (all (sweepGood cells span) (sweepsAt file p left) ≡ all (sweepGood cells span) (sweepsAt file at count))

@@ -5,11 +5,6 @@ use mathlib.Core.Path.{sym, _∙_}
 use Rattle.meaning.specs.Site.{sweepsGood}
 use Rattle.sweeps.proofs.sweeps_pass.Statement.{statement}
 use Rattle.sweeps.proofs.sweeps_pass.Tie as tie
-use Rattle.sweeps.proofs.sweeps_pass.Reads as reads
-use Rattle.sweeps.proofs.sweeps_pass.Lts as lts
-use Rattle.sweeps.proofs.all_handed_over.Reads as all-handed-over-reads
-use Rattle.sweeps.proofs.sweeps_good.Reads as sweeps-good-reads
-use Rattle.sweeps.proofs.used.Reads as used-reads
 
 sweeps-good-requires : tie.Need-sweeps-good-requires
 sweeps-good-requires c κs = search needs

@@ -11,9 +11,6 @@ use Rattle.sweeps.proofs.Laws.{any-none, any-hit, any-miss}
 use native.Mathlib.Omega.{arith}
 use Rattle.sweeps.proofs.used.Statement.{statement}
 use Rattle.sweeps.proofs.used.Tie as tie
-use Rattle.sweeps.proofs.used.Reads as reads
-use Rattle.sweeps.proofs.used.Lts as lts
-use Rattle.sweeps.proofs.covers_at.Reads as covers-at-reads
 
 abbrev Inv-loop : tie.InvT-loop
 Inv-loop file at count cell t p₀ left₀ p left = (p + 3 * left ≤ length file) × (any (covers cell t) (sweepsAt file p left) ≡ any (covers cell t) (sweepsAt file at count))
