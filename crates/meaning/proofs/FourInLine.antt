@@ -11,7 +11,7 @@ use Rattle.meaning.specs.Reach.{byWait, byMotion, word, firstRow, withRo
 use Rattle.meaning.specs.Light.{encode, lightOf, isLightHead, isWait, isMove, inLayout, isLight, decode}
 use Rattle.meaning.specs.Intervals.{begins, runEnd, intervalsFrom, intervals}
 use Rattle.meaning.specs.Calls.{bytesView, startNamed, runNamed, lightNamed, lightValid, routeRefusals, lightRefusals, closeRefusals, withdrawRefusals, intervalRefusals, refusals, grantedLight, changed, acceptedDone, refusedDone, meant}
-use Rattle.meaning.specs.Day.{callOf, dayDone, linesFrom, dayLines}
+use Rattle.meaning.specs.Day.{callOf, dayDone, linesFrom, dayLines, decimal}
 use Rattle.meaning.specs.FourInLine.{called, fresh, closed, posted, lightFor, routed, boardB, boardC, boardD, boardN, lightA, postedA, Starred, Computed}
 
 pub starred : Starred
@@ -52,5 +52,5 @@ unfolding every any all allBelow within lowest answer split fields complete list
     allowed walk startFree planEnd planPairs byWait byMotion word firstRow withRow rowsTo trace tracedRoute routeIn findRoute
     encode lightOf isLightHead isWait isMove inLayout isLight decode begins runEnd intervalsFrom intervals
     bytesView startNamed runNamed lightNamed lightValid routeRefusals lightRefusals closeRefusals withdrawRefusals intervalRefusals refusals grantedLight changed acceptedDone refusedDone meant
-    called fresh closed posted lightFor routed boardB boardC boardD boardN lightA postedA callOf dayDone linesFrom dayLines
-computed = record { A-earliest-only = refl; J-late = refl; J-last = refl; O = refl; day = refl; day-cut = refl; day-tag = refl; day-refused = refl; day-empty = refl }
+    called fresh closed posted lightFor routed boardB boardC boardD boardN lightA postedA callOf dayDone linesFrom dayLines decimal
+computed = record { A-earliest-only = refl; J-late = refl; J-last = refl; O = refl; day = refl; day-text = refl; day-cut = refl; day-tag = refl; day-refused = refl; day-empty = refl }

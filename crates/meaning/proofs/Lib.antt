@@ -19,5 +19,6 @@ pub mod RouteLaws
 pub mod ListLaws
 pub mod DemandLaws
 pub mod AreaLaws
+pub mod DayLaws
 pub mod FourInLine
 pub mod Theorems

@@ -1,6 +1,6 @@
 -- All theorems about the definitions, each as it is stated in specs/.
 -- Assumes nothing.
-use Rattle.meaning.specs.Laws.{RefusalsRise, HoldersRight, SitesRight, LightsRight, PlansRight, SearchRight, IntervalsRight, HandoverRight}
+use Rattle.meaning.specs.Laws.{RefusalsRise, HoldersRight, SitesRight, LightsRight, PlansRight, SearchRight, IntervalsRight, HandoverRight, DayRight}
 use Rattle.meaning.specs.Demands.{Desk, Exact, meantDesk, Demand1, Demand2, Demand3}
 use Rattle.meaning.specs.FourInLine.{Starred, Computed}
 use Rattle.meaning.proofs.AnswersLaws.{refusals-rise}
@@ -11,6 +11,7 @@ use Rattle.meaning.proofs.PlanLaws.{plans-right}
 use Rattle.meaning.proofs.TraceLaws.{search-right}
 use Rattle.meaning.proofs.IntervalLaws.{intervals-right}
 use Rattle.meaning.proofs.HandoverLaws.{handover-right}
+use Rattle.meaning.proofs.DayLaws.{day-right}
 use Rattle.meaning.proofs.DemandLaws.{exact-demand1, exact-demand2}
 use Rattle.meaning.proofs.ListLaws.{exact-demand3}
 use Rattle.meaning.proofs.FourInLine.{starred, computed}
@@ -26,6 +27,7 @@ pub record AllLaws : Type 0 where
   pub search : SearchRight
   pub intervals : IntervalsRight
   pub handover : HandoverRight
+  pub day : DayRight
 
 pub all-laws : AllLaws
 all-laws = record {
@@ -37,6 +39,7 @@ all-laws = record {
   search = search-right;
   intervals = intervals-right;
   handover = handover-right;
+  day = day-right;
 }
 
 -- ---- the demands of specs/Demands.antt

@@ -1,12 +1,12 @@
 -- The day program: from the bytes of site.bin and of the script to the lines that it prints.
 -- Assumes nothing.
-use Prim.Native.Nat.{ℕ, zero, suc}
+use Prim.Native.Nat.{ℕ, zero, suc, _+_, _/_, _%_}
 use mathlib.Core.Bool.{Bool, cond, _&&_}
 use mathlib.Core.Option.{Option, none, some}
-use mathlib.Core.List.{List, [], _∷_}
-use lib.Dec.{eqb}
+use mathlib.Core.List.{List, [], _∷_, _++_}
+use lib.Dec.{eqb, leb, ltb}
 use lib.ListN.{length, getD, take, replicate}
-use Rattle.meaning.specs.Limits.{closeTag, withdrawTag, routeTag, postTag, closeSize, withdrawSize, routeSize, dayArea, dayWords}
+use Rattle.meaning.specs.Limits.{fieldHeader, closeTag, withdrawTag, routeTag, postTag, closeSize, withdrawSize, routeSize, dayArea, dayWords}
 use Rattle.meaning.specs.Basics.{u16At}
 use Rattle.meaning.specs.Fields.{Field, Fields, end, cut, next, fields}
 use Rattle.meaning.specs.Site.{siteOf}
@@ -90,3 +90,56 @@ unfoldable pub dayLines : List ℕ → List ℕ → List Line
 dayLines file script =
     let x : Done = meant file (onBoard (dayBoard file)) opening in
     opened file script x (x .number)
+
+-- ---- the text that is printed
+
+-- the decimal digits of n, at most k of them, the highest first
+abbrev pub decimalBy : ℕ → ℕ → List ℕ
+decimalBy zero n = []
+decimalBy (suc k) n = cond (ltb n 10) [] (decimalBy k (n / 10)) ++ ((48 + n % 10) ∷ [])
+
+-- all of them: 0 has one, and any other number no more than it counts
+unfoldable pub decimal : ℕ → List ℕ
+decimal n = decimalBy (suc n) n
+
+-- a blank between the numbers, and the line's end
+abbrev pub textOf : Line → List ℕ
+textOf x = decimal (x .number) ++ (32 ∷ decimal (x .edition) ++ (32 ∷ decimal (x .arrival) ++ (10 ∷ [])))
+
+abbrev pub texts : List Line → List ℕ
+texts [] = []
+texts (x ∷ xs) = textOf x ++ texts xs
+
+abbrev pub dayText : List ℕ → List ℕ → List ℕ
+dayText file script = texts (dayLines file script)
+
+-- ---- field by field
+
+-- how many bytes are read after a header: its value, unless that is longer than any call's
+unfoldable pub wanted : List ℕ → ℕ
+wanted s = cond (leb (u16At s 1) routeSize) (u16At s 1) 0
+
+-- what is read of the script at one turn
+abbrev pub piece : List ℕ → List ℕ
+piece s = take (fieldHeader + wanted s) s
+
+-- the line of a turn; nothing at the script's end
+abbrev pub lineNext : List ℕ → Fields → Day → List Line
+lineNext file end d = []
+lineNext file cut d = badLine ∷ []
+lineNext file (next f fs) d = lineThen file d (callOf (d .light) f) (λ (d′ : Day). [])
+
+-- the day after a turn; nothing where the program ends
+abbrev pub dayBy : List ℕ → Day → Option Call → Option Day
+dayBy file d none = none
+dayBy file d (some c) = some (dayAfter d (dayDone file d c))
+
+abbrev pub dayNext : List ℕ → Fields → Day → Option Day
+dayNext file end d = none
+dayNext file cut d = none
+dayNext file (next f fs) d = dayBy file d (callOf (d .light) f)
+
+-- the lines of the rest of the script
+abbrev pub linesOn : List ℕ → List ℕ → Option Day → List Line
+linesOn file rest none = []
+linesOn file rest (some d) = linesFrom file (fields rest) d

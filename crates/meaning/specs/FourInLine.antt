@@ -13,7 +13,7 @@ use Rattle.meaning.specs.Plan.{Step, wait, move, Node}
 use Rattle.meaning.specs.Reach.{Route}
 use Rattle.meaning.specs.Light.{Light, decode}
 use Rattle.meaning.specs.Calls.{route, post, close, PublicCall, opening, interval, listed, lends, Done, meant}
-use Rattle.meaning.specs.Day.{Line, dayLines}
+use Rattle.meaning.specs.Day.{Line, dayLines, dayText}
 use Rattle.meaning.specs.EarliestOnly.{earliestNumber}
 
 abbrev pub siteFile : List ℕ
@@ -158,6 +158,12 @@ pub record Computed : Type 0 where
   pub J-last : routed fresh (node 0 12) 4 ≡ refused 18
   pub O : readSite siteFileO ≡ refused 6
   pub day : dayLines siteFile script ≡ line 0 1 0 ∷ line 0 1 10 ∷ line 0 2 0 ∷ []
+  -- the example's lines, in bytes
+  pub day-text : dayText siteFile script
+      ≡ 0x30 ∷ 0x20 ∷ 0x31 ∷ 0x20 ∷ 0x30 ∷ 0x0A
+      ∷ 0x30 ∷ 0x20 ∷ 0x31 ∷ 0x20 ∷ 0x31 ∷ 0x30 ∷ 0x0A
+      ∷ 0x30 ∷ 0x20 ∷ 0x32 ∷ 0x20 ∷ 0x30 ∷ 0x0A
+      ∷ []
   -- no light was granted yet, so 8; a withdrawal; then a field that is cut
   pub day-cut : dayLines siteFile (fieldsBytes (posting ∷ closing ∷ withdrawing ∷ []) ++ (33 ∷ 0 ∷ []))
       ≡ line 8 0 0 ∷ line 0 1 0 ∷ line 0 2 0 ∷ line 99 0 0 ∷ []

@@ -4,11 +4,12 @@ use Prim.Native.Nat.{ℕ, suc, _+_, _≤_, _<_}
 use mathlib.Core.Path.{_≡_}
 use mathlib.Core.Bool.{Bool, true, false}
 use mathlib.Core.Option.{none, some}
-use mathlib.Core.List.{List, []}
-use lib.ListN.{length}
+use mathlib.Core.List.{List, [], _++_}
+use lib.ListN.{length, drop}
 use Rattle.meaning.specs.Limits.{fileLimit, lastTug, lastClosure}
 use Rattle.meaning.specs.Basics.{Bytes}
 use Rattle.meaning.specs.Answers.{RiseFrom, accepted}
+use Rattle.meaning.specs.Fields.{fields}
 use Rattle.meaning.specs.Site.{Site, readSite}
 use Rattle.meaning.specs.Board.{Free, isTug, isClosure, isHolder}
 use Rattle.meaning.specs.Plan.{Step, Node, planEnd, planPairs}
@@ -17,6 +18,7 @@ use Rattle.meaning.specs.Light.{Light, encode, decode}
 use Rattle.meaning.specs.Intervals.{intervals, numbersOf}
 use Rattle.meaning.specs.Calls.{PublicCall, Lent, numbersRoom, lightRoom, refusals}
 use Rattle.meaning.specs.PlainBoard.{hasPair}
+use Rattle.meaning.specs.Day.{Day, linesFrom, piece, lineNext, dayNext, linesOn}
 use Rattle.meaning.specs.ValidPlans.{Valid, Reached, Arrival, Holds, Traced, mergeWaits}
 use Rattle.meaning.specs.SafeIntervals.{AllSafeIntervals}
 use Rattle.meaning.specs.WellFormed.{WellFormed, fileOf, KeepsLayout}
@@ -93,3 +95,9 @@ pub record HandoverRight : Type 0 where
       → ((c t : ℕ) → Holds site a ps c t → Holds site d qs c t → ⊥)
       → (t : ℕ) → a .tick ≤ t → t < b .tick
       → ((c : ℕ) → Holds site a ps c (suc t) → Holds site d qs c t) → ⊥
+
+-- the day program may read its script turn by turn: no more than a header, and the value that a call may have
+pub record DayRight : Type 0 where
+  pub turn-by-turn : (file script : List ℕ) (d : Day)
+      → linesFrom file (fields script) d
+      ≡ lineNext file (fields (piece script)) d ++ linesOn file (drop (length (piece script)) script) (dayNext file (fields (piece script)) d)
