@@ -6,7 +6,8 @@
  * number alone and leaves all that was lent as it was, but for 18: a completed search without a plan leaves
  * the working words that it needs zero.
  *
- * What each call returns and writes is proved: crates/dispatch/src/lib.rt has the contracts. */
+ * What each call returns and writes is proved: crates/dispatch_c/src/lib.rt has the contracts, and
+ * crates/dispatch_c/specs/Words.antt says how a word is read. The archive is libdispatch_c.a. */
 #ifndef DISPATCH_H
 #define DISPATCH_H
 

@@ -1,3 +1,4 @@
 pub mod Laws
 pub mod RouteLaws
+pub mod Desks
 pub mod Demands

@@ -1,6 +1,6 @@
 -- Laws of route: what its work asks, and what is meant of a route that was granted, that found no plan, and that was refused before.
 -- Assumes nothing.
-use Prim.Native.Nat.{ℕ, zero, suc, _+_, _*_, _≤_}
+use Prim.Native.Nat.{ℕ, zero, suc, _+_, _*_, _≤_, _<_}
 use native.Mathlib.Omega.{arith}
 use mathlib.Core.Path.{_≡_, refl, sym, ap, ap₂, _∙_}
 use mathlib.Core.Option.{Option, none, some}
@@ -74,13 +74,17 @@ module _ (file board out words : List ℕ) (tug start tick goal : ℕ) where
     said : l ≡ layoutOf (siteOf file)
     said = routes.layout-said file lent tug (nodeAt start tick) goal l e
 
-    pub route-asked : Asked file l (length board) start tick goal
-    route-asked = record {
+    -- both states are known
+    pub route-states : (start < length (siteOf file .states)) × (goal < length (siteOf file .states))
+    route-states = (routes.start-below file lent tug (nodeAt start tick) goal l e, routes.goal-below file lent tug (nodeAt start tick) goal l e)
+
+    pub route-asked : (from to : ℕ) → from < length (siteOf file .states) → to < length (siteOf file .states) → Asked file l (length board) from tick to
+    route-asked from to from-known to-known = record {
       read = routes.file-read file lent tug (nodeAt start tick) goal l e;
       says = said;
       sized = routes.board-length file lent tug (nodeAt start tick) goal l e;
-      start-known = routes.start-below file lent tug (nodeAt start tick) goal l e;
-      goal-known = routes.goal-below file lent tug (nodeAt start tick) goal l e;
+      start-known = from-known;
+      goal-known = to-known;
       in-time = routes.tick-in-time file lent tug (nodeAt start tick) goal l e;
     }
 

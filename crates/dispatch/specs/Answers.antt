@@ -1,6 +1,6 @@
 -- The answers of the public calls: document 01's number and values for each case, and the case for each number.
 -- Assumes nothing.
-use Prim.Native.Nat.{ℕ, zero, suc, _+_, _*_}
+use Prim.Native.Nat.{ℕ, zero, suc}
 use mathlib.Core.List.{List, [], _∷_}
 use lib.ListN.{getD}
 use Rattle.meaning.specs.Calls.{Done}
@@ -55,13 +55,3 @@ grantedBy (suc n) values = G.Refused (suc n)
 
 abbrev pub grantedOf : Done → Granted
 grantedOf d = grantedBy (d .number) (d .values)
-
--- ---- for C: one word, the number, and beside 0 the count or the light's length times 2 ^ 8 and the arrival times 2 ^ 32
-
-abbrev pub countedWord : Counted → ℕ
-countedWord (C.Counted n) = n * 256
-countedWord (C.Refused n) = n
-
-abbrev pub grantedWord : Granted → ℕ
-grantedWord (G.Granted len arrival) = len * 256 + arrival * 4294967296
-grantedWord (G.Refused n) = n

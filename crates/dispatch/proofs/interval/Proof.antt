@@ -1,6 +1,7 @@
 -- `dispatch::interval` meets its contract.
 -- Assumes nothing.
 use Prim.Native.Nat.{_<_}
+use native.Mathlib.Omega.{arith}
 use mathlib.Core.Path.{_≡_, refl, sym, _∙_}
 use mathlib.Core.List.{[]}
 use lib.ListN.{length}
@@ -35,7 +36,8 @@ enum-known-l c = search needs
 write-intervals-requires : tie.Need-write-intervals-requires
 write-intervals-requires c κs =
     let at = c .before .before in
-    (interval-row _ _ (start at .args .out .now) _ _ (passes at), interval-room _ (start at .args .board .now) _ _ _ (passes at))
+    let row = interval-row _ _ (start at .args .out .now) _ _ (passes at) in
+    (record { short = row .short; in-time = row .in-time; on-board = omega arith }, interval-room _ (start at .args .board .now) _ _ _ (passes at))
 
 -- what the work tells, at the site of the file
 horizon-is : (c : tie.After-l) → siteOf (start c .args .file .now) .horizon ≡ c .l .given .0 .0 .horizon
@@ -49,7 +51,7 @@ arm c = c .before .before .before
 
 counted : (c : tie.After-write-intervals) → let a = start (arm c) .args in
     c .write-intervals .result ≡ length (intervals (free (siteOf (a .file .now)) (a .board .now) (a .cell)) (arm c .l .given .0 .0 .horizon))
-counted c = c .write-intervals .ensures .0 _ (horizon-is (arm c)) (cell-in (arm c))
+counted c = c .write-intervals .ensures .0 _ (horizon-is (arm c)) (omega (arith, cell-in (arm c)))
 
 cast-count : tie.Need-cast-count
 cast-count c =
@@ -68,7 +70,7 @@ returns c =
     let worked = c .before .before in
     let at = arm worked in (
       interval-counted _ _ _ _ _ (passes at) _ (counted worked),
-      interval-left _ _ _ _ _ (passes at) _ (worked .write-intervals .ensures .1 _ (horizon-is at) (cell-in at)),
+      interval-left _ _ _ _ _ (passes at) _ (worked .write-intervals .ensures .1 _ (horizon-is at) (omega (arith, cell-in at))),
     )
 
 returns-2 : tie.Need-returns-2

@@ -9,7 +9,7 @@ use Rattle.meaning.specs.Calls.{lends}
 use Rattle.calls.specs.declared.Check.the-variants.{Passed}
 use Rattle.calls.specs.Checks.{checkBy}
 use Rattle.routes.specs.Checks.{nodeAt, checksTo14}
-use Rattle.dispatch.proofs.RouteLaws.{route-refused, route-asked, route-room, route-words, horizon-small, words-few, route-granted, route-none}
+use Rattle.dispatch.proofs.RouteLaws.{route-refused, route-states, route-asked, route-room, route-words, horizon-small, words-few, route-granted, route-none}
 use Rattle.dispatch.proofs.route.Statement.{statement}
 use Rattle.dispatch.proofs.route.Tie as tie
 
@@ -44,13 +44,14 @@ zero-words-requires : tie.Need-zero-words-requires
 zero-words-requires c κs =
     let at = c .before .before .before .before in
     let a = start at .args in
-    route-words (a .file .now) (a .board .now) (a .out .now) (a .work .now) (a .tug) (a .start) (a .tick) (a .goal) _ (passes at)
+    omega (arith, route-words (a .file .now) (a .board .now) (a .out .now) (a .work .now) (a .tug) (a .start) (a .tick) (a .goal) _ (passes at))
 
 find-requires : tie.Need-find-requires
 find-requires c κs =
     let at = c .before .before .before .before .before .before .before .before in
     let a = start at .args in
-    (route-asked (a .file .now) (a .board .now) (a .out .now) (a .work .now) (a .tug) (a .start) (a .tick) (a .goal) _ (passes at), route-room (a .file .now) (a .board .now) (a .out .now) (a .work .now) (a .tug) (a .start) (a .tick) (a .goal) _ (passes at))
+    let states = route-states (a .file .now) (a .board .now) (a .out .now) (a .work .now) (a .tug) (a .start) (a .tick) (a .goal) _ (passes at) in
+    (route-asked (a .file .now) (a .board .now) (a .out .now) (a .work .now) (a .tug) (a .start) (a .tick) (a .goal) _ (passes at) _ _ (omega arith) (omega arith), route-room (a .file .now) (a .board .now) (a .out .now) (a .work .now) (a .tug) (a .start) (a .tick) (a .goal) _ (passes at))
 
 enum-known-len : tie.Need-enum-known-len
 enum-known-len c = search needs

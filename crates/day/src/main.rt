@@ -1,0 +1,90 @@
+// The day program: the site from site.bin, an opened board, and a script from standard input, one line for each of its fields.
+// What a field comes to is proved in `script`; here bytes are read, handed over and printed.
+use libc::STDIN_FILENO;
+use libc::STDOUT_FILENO;
+use script::Opening;
+use script::Outcome;
+ghost use Prim.Native.Nat.{_≤_};
+ghost use lib.ListN.{length};
+ghost use Rattle.io.specs.Counts.{Counts};
+ghost use Rattle.meaning.specs.Limits.{header, dayArea};
+ghost use Rattle.script.specs.Turns.{Areas};
+
+// The site file's bytes, as many as fit: none where it cannot be opened.
+fn load(file: &mut [u8]) -> usize
+    ensures { λ r. ⌜ Counts r (now (file .exit)) ⌝ }
+{
+    let fd = os::open_read(b"site.bin");
+    if fd < 0 {
+        return 0;
+    }
+    let n = io::read_full(fd, file);
+    libc::close(fd);
+    n
+}
+
+// The bytes of one turn: a header, and the value that follows it if a call may have such a one. Answers how many there were.
+fn read_piece(piece: &mut [u8]) -> usize
+    requires { ⌜ 10 ≤ length (now piece) ⌝ }
+    ensures { λ r. ⌜ Counts r (now (piece .exit)) ⌝ }
+{
+    let got = io::read_full(STDIN_FILENO, &mut piece[..3]);
+    let want = orders::wanted(&piece[..got]);
+    if want == 0 {
+        return got;
+    }
+    got + io::read_full(STDIN_FILENO, &mut piece[got..got + want])
+}
+
+// Reads a field, obeys it and prints its line.
+fn turn(file: &[u8], board: &mut [u8], out: &mut [u8], words: &mut [u32], light: usize) -> Outcome
+    requires { ⌜ Areas (length (now out)) (length (now words)) light ⌝ }
+    requires { ⌜ header ≤ length (now board) ⌝ }
+    ensures { λ r. ⌜ r .light ≤ dayArea ⌝ }
+{
+    let mut piece = [0u8; 10];
+    let n = read_piece(&mut piece);
+    let mut line = [0u8; 64];
+    let turn = script::turn(file, board, out, words, light, &piece[..n], &mut line);
+    io::write_all(STDOUT_FILENO, &line[..turn.text]);
+    turn
+}
+
+// Nothing says that the input ends, so the loop counts its turns down from a number that no run uses up.
+fn run(file: &[u8], board: &mut [u8], out: &mut [u8], words: &mut [u32])
+    requires { ⌜ Areas (length (now out)) (length (now words)) 0 ⌝ }
+    requires { ⌜ header ≤ length (now board) ⌝ }
+{
+    let mut light = 0;
+    let mut going = true;
+    let mut turns = u64::MAX;
+    while going && turns > 0 {
+        let done = turn(file, board, out, words, light);
+        light = done.light;
+        going = done.going;
+        turns -= 1;
+    }
+}
+
+// A refusal's line, its number alone.
+fn refuse(number: u8) {
+    let mut line = [0u8; 64];
+    let n = lines::write_line(&mut line, number as u64, 0, 0);
+    io::write_all(STDOUT_FILENO, &line[..n]);
+}
+
+fn main() {
+    let mut file = [0u8; 65537];
+    let mut area = [0u8; 65536];
+    let mut out = [0u8; 65536];
+    let mut words = [0u32; 16384];
+    let n = load(&mut file);
+    match script::start(&file[..n], &mut area) {
+        Opening::Opened(size) => {
+            run(&file[..n], &mut area[..size], &mut out, &mut words);
+        }
+        Opening::Refused(number) => {
+            refuse(number);
+        }
+    }
+}

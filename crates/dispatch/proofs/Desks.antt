@@ -1,0 +1,84 @@
+-- Laws for every desk, whatever form its answers have: what makes a call's outcome the one that is meant, and that a desk which
+-- allows what is meant of every call has a run of every list.
+-- Assumes nothing.
+use Prim.Native.Nat.{ℕ, zero, suc}
+use mathlib.Core.Path.{_≡_, refl, sym, ap, ap₂, _∙_, subst}
+use mathlib.Core.List.{List, [], _∷_}
+use denote.Ref.{RefT}
+use Rattle.meaning.specs.Answers.{lowest}
+use Rattle.meaning.specs.Site.{siteOf}
+use Rattle.meaning.specs.Plan.{Node}
+use Rattle.meaning.specs.Calls.{PublicCall, interval, listed, Call, route, audit, Lent, lends, onBoard, refusals, changed, Done, meant}
+use Rattle.meaning.specs.Demands.{Desk, Exact, Turn, Follows}
+use Rattle.meaning.proofs.CallLaws.{meant-by, done-board}
+use Rattle.meaning.proofs.AreaLaws.{BoardCall, board-alone, interval-alone}
+use Rattle.meaning.proofs.Theorems.{demands}
+
+-- ---- the outcome that is meant, call by call
+
+-- what comes of a call that is lent a board alone: its number, and the board as it leaves it
+abbrev pub boardDone : ℕ → List ℕ → List ℕ → List ℕ → Done
+boardDone n board out words = record { number = n; values = []; lent = lends board out words }
+
+module _ (file board out words : List ℕ) where
+  pub board-exact : (left : List ℕ) (q : PublicCall) → BoardCall q → (n : ℕ) → n ≡ meant file (onBoard board) q .number
+      → left ≡ meant file (onBoard board) q .lent .board → boardDone n left out words ≡ meant file (lends board out words) q
+  board-exact left q alone n answered leaves =
+      ap₂ (λ (m : ℕ) (b : List ℕ). boardDone m b out words) answered leaves ∙ sym (board-alone file board out words q alone)
+
+  -- an audit never writes the board
+  pub audit-exact : (light : List ℕ) (n : ℕ) → n ≡ meant file (onBoard board) (listed (audit light)) .number
+      → boardDone n board out words ≡ meant file (lends board out words) (listed (audit light))
+  audit-exact light n answered =
+      board-exact board (listed (audit light)) tt n answered
+      (sym (ap (λ (m : Lent). m .board) (demands .first .audited file (onBoard board) light _ refl .1)))
+
+  pub interval-exact : (cell n : ℕ) (values left : List ℕ) → n ≡ meant file (lends board out []) (interval cell) .number
+      → values ≡ meant file (lends board out []) (interval cell) .values → left ≡ meant file (lends board out []) (interval cell) .lent .out
+      → record { number = n; values = values; lent = lends board left words } ≡ meant file (lends board out words) (interval cell)
+  interval-exact cell n values left same-number same-values leaves =
+      (λ i. record { number = same-number i; values = same-values i; lent = lends board (leaves i) words })
+      ∙ sym (interval-alone file board out words cell)
+
+module _ (file : List ℕ) (l : Lent) (tug : ℕ) (a : Node) (goal : ℕ) where
+  abbrev routed : Done
+  routed = meant file l (listed (route tug a goal))
+
+  -- a route never writes the board
+  route-keeps : l .board ≡ routed .lent .board
+  unfolding changed
+  route-keeps = by-number (lowest (refusals file l (listed (route tug a goal)))) refl
+    where
+      by-number : (n : ℕ) → lowest (refusals file l (listed (route tug a goal))) ≡ n → l .board ≡ routed .lent .board
+      by-number zero e = sym (ap (λ (d : Done). d .lent .board) (meant-by file l (listed (route tug a goal)) 0 e) ∙ done-board (siteOf file) l (route tug a goal) 0)
+      by-number (suc n) e =
+          sym (ap (λ (d : Done). d .lent .board) (meant-by file l (listed (route tug a goal)) (suc n) e) ∙ done-board (siteOf file) l (route tug a goal) (suc n))
+
+  pub route-exact : (n : ℕ) (values out words : List ℕ) → n ≡ routed .number → values ≡ routed .values → out ≡ routed .lent .out → words ≡ routed .lent .words
+      → record { number = n; values = values; lent = lends (l .board) out words } ≡ routed
+  route-exact n values out words same-number same-values leaves clears =
+      let keeps = route-keeps in
+      (λ i. record { number = same-number i; values = same-values i; lent = lends (keeps i) (leaves i) (clears i) })
+
+-- ---- a run of every list
+
+-- a list, lent
+abbrev pub lend : List ℕ → RefT (List ℕ)
+lend b = record { ptr = (0, 0); name = 0; now = b }
+
+-- each call with the areas that it brings, on the board that the one before left
+abbrev pub turns : List ℕ → List ℕ → List (Call × (List ℕ × List ℕ)) → List Turn
+turns file board [] = []
+turns file board ((c, (out, words)) ∷ cs) =
+    record { call = c; lent = lends board out words; done = meant file (lends board out words) (listed c) }
+    ∷ turns file (meant file (lends board out words) (listed c) .lent .board) cs
+
+module _ (desk : Desk) where
+  -- where an exact desk allows an outcome, that is the one which is meant
+  pub allows-meant : Exact desk → {file : List ℕ} {l : Lent} {q : PublicCall} {d : Done} → desk file l q d → desk file l q (meant file l q)
+  allows-meant exact {file} {l} {q} {d} may = subst (desk file l q) (exact file l q d may) may
+
+  pub every-run : (file : List ℕ) → ((l : Lent) (q : PublicCall) → desk file l q (meant file l q)) → (board : List ℕ) (cs : List (Call × (List ℕ × List ℕ)))
+      → Follows desk file board (turns file board cs)
+  every-run file can board [] = tt
+  every-run file can board ((c, (out, words)) ∷ cs) = (refl, can (lends board out words) (listed c), every-run file can _ cs)

@@ -1,0 +1,109 @@
+// The public calls for C: each answers one word, from which a caller reads the number and the values back.
+use dispatch::Answer;
+use dispatch::Counted;
+use dispatch::Granted;
+ghost use mathlib.Core.Path.{_≡_};
+ghost use mathlib.Core.List.{[]};
+ghost use Rattle.meaning.specs.Calls.{opening, interval, listed, route, audit, post, close, withdraw, meant, lends, onBoard};
+ghost use Rattle.routes.specs.Checks.{nodeAt};
+ghost use Rattle.dispatch.specs.Answers.{numberOf, countedOf, grantedOf};
+ghost use Rattle.dispatch_c.specs.Words.{countedWord, grantedWord};
+
+fn answer_word(a: Answer) -> u64
+    ensures { λ r. ⌜ r ≡ numberOf a ⌝ }
+{
+    match a {
+        Answer::Accepted => 0,
+        Answer::Refused(n) => n as u64,
+    }
+}
+
+fn counted_word(c: Counted) -> u64
+    ensures { λ r. ⌜ r ≡ countedWord c ⌝ }
+{
+    match c {
+        Counted::Counted(n) => (n as u64) * 256,
+        Counted::Refused(n) => n as u64,
+    }
+}
+
+fn granted_word(g: Granted) -> u64
+    ensures { λ r. ⌜ r ≡ grantedWord g ⌝ }
+{
+    match g {
+        Granted::Granted(len, arrival) => (len as u64) * 256 + (arrival as u64) * 4294967296,
+        Granted::Refused(n) => n as u64,
+    }
+}
+
+#[no_mangle]
+pub extern "C" fn dispatch_open(file: &[u8], board: &mut [u8]) -> u64
+    ensures { λ r. ⌜ r ≡ meant (now (file .entry)) (onBoard (now (board .entry))) opening .number ⌝ }
+    ensures { λ _. ⌜ now (board .exit) ≡ meant (now (file .entry)) (onBoard (now (board .entry))) opening .lent .board ⌝ }
+{
+    answer_word(dispatch::open(file, board))
+}
+
+#[no_mangle]
+pub extern "C" fn dispatch_interval(file: &[u8], board: &[u8], cell: u16, out: &mut [u16]) -> u64
+    ensures { λ r. ⌜ r ≡ countedWord (countedOf (meant (now (file .entry)) (lends (now (board .entry)) (now (out .entry)) []) (interval cell))) ⌝ }
+    ensures { λ _. ⌜ now (out .exit) ≡ meant (now (file .entry)) (lends (now (board .entry)) (now (out .entry)) []) (interval cell) .lent .out ⌝ }
+{
+    counted_word(dispatch::interval(file, board, cell, out))
+}
+
+#[no_mangle]
+pub extern "C" fn dispatch_route(
+    file: &[u8],
+    board: &[u8],
+    tug: u8,
+    start: u16,
+    tick: u16,
+    goal: u16,
+    out: &mut [u8],
+    work: &mut [u32],
+) -> u64
+    ensures { λ r. ⌜ r ≡ grantedWord (grantedOf (meant (now (file .entry)) (lends (now (board .entry)) (now (out .entry)) (now (work .entry))) (listed (route tug (nodeAt start tick) goal)))) ⌝ }
+    ensures { λ _. ⌜ now (out .exit) ≡ meant (now (file .entry)) (lends (now (board .entry)) (now (out .entry)) (now (work .entry))) (listed (route tug (nodeAt start tick) goal)) .lent .out ⌝ }
+    ensures { λ _. ⌜ now (work .exit) ≡ meant (now (file .entry)) (lends (now (board .entry)) (now (out .entry)) (now (work .entry))) (listed (route tug (nodeAt start tick) goal)) .lent .words ⌝ }
+{
+    granted_word(dispatch::route(file, board, tug, start, tick, goal, out, work))
+}
+
+#[no_mangle]
+pub extern "C" fn dispatch_audit(file: &[u8], board: &[u8], light: &[u8]) -> u64
+    ensures { λ r. ⌜ r ≡ meant (now (file .entry)) (onBoard (now (board .entry))) (listed (audit (now (light .entry)))) .number ⌝ }
+{
+    answer_word(dispatch::audit(file, board, light))
+}
+
+#[no_mangle]
+pub extern "C" fn dispatch_post(file: &[u8], board: &mut [u8], light: &[u8]) -> u64
+    ensures { λ r. ⌜ r ≡ meant (now (file .entry)) (onBoard (now (board .entry))) (listed (post (now (light .entry)))) .number ⌝ }
+    ensures { λ _. ⌜ now (board .exit) ≡ meant (now (file .entry)) (onBoard (now (board .entry))) (listed (post (now (light .entry)))) .lent .board ⌝ }
+{
+    answer_word(dispatch::post(file, board, light))
+}
+
+#[no_mangle]
+pub extern "C" fn dispatch_close(
+    file: &[u8],
+    board: &mut [u8],
+    holder: u8,
+    cell: u16,
+    first: u16,
+    last: u16,
+) -> u64
+    ensures { λ r. ⌜ r ≡ meant (now (file .entry)) (onBoard (now (board .entry))) (listed (close holder cell first last)) .number ⌝ }
+    ensures { λ _. ⌜ now (board .exit) ≡ meant (now (file .entry)) (onBoard (now (board .entry))) (listed (close holder cell first last)) .lent .board ⌝ }
+{
+    answer_word(dispatch::close(file, board, holder, cell, first, last))
+}
+
+#[no_mangle]
+pub extern "C" fn dispatch_withdraw(file: &[u8], board: &mut [u8], holder: u8) -> u64
+    ensures { λ r. ⌜ r ≡ meant (now (file .entry)) (onBoard (now (board .entry))) (listed (withdraw holder)) .number ⌝ }
+    ensures { λ _. ⌜ now (board .exit) ≡ meant (now (file .entry)) (onBoard (now (board .entry))) (listed (withdraw holder)) .lent .board ⌝ }
+{
+    answer_word(dispatch::withdraw(file, board, holder))
+}

@@ -1,0 +1,4 @@
+pub mod AreaLaws
+pub mod Laws
+pub mod TurnLaws
+pub mod OpeningLaws

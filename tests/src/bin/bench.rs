@@ -1,0 +1,197 @@
+//! The time of the whole route call, the desk's and the plain program's, on generated sites of 200 states,
+//! 1,000 motions and H 1,000, with at most a tenth of the board held and at least 400 ticks from start to arrival.
+//!
+//! `./bench`; ROUTES sets how many routes (1,000) and SEED the seed (1).
+//!
+//! Sites:
+//! - grid: 10 by 10 cells with a standing and a rolling state each; motions between neighbouring cells that speed up
+//!   (span 2), roll on (span 1) or slow down (span 2 or 3), 1,000 chosen of all.
+//! - random: 100 cells, 60 in 100 states standing; motions between any two states, span 1 to 8, 1 to 4 sweeps.
+//! - long: 200 cells, as random, with span 10 to 120 and 1 to 16 sweeps.
+//! - corridor: states in a row, standing and rolling in turn; motions to the next few states either way, span 2 to 9.
+//!
+//! Boards: held in short runs (1 to 4 ticks), in long runs (5 to 60 ticks), both up to nine in a hundred pairs, or in
+//! few runs (one in a hundred). Where the goal is nearer, its cell is held from tick 0 up to a tick of 400 to 900.
+
+use dispatch_tests::desk::{self, Answer};
+use dispatch_tests::gen::{motion_between, Rng};
+use dispatch_tests::literal::{encode, Motion, Site, State, Sweep};
+use dispatch_tests::plain;
+use std::hint::black_box;
+use std::time::Instant;
+
+const STATES: usize = 200;
+const MOTIONS: usize = 1_000;
+const H: usize = 1_000;
+
+fn grid(rng: &mut Rng) -> Site {
+    let states: Vec<State> = (0..STATES).map(|i| State { cell: (i / 2) as u8, speed: (i % 2) as u8 }).collect();
+    let mut motions = Vec::new();
+    for u in 0..100usize {
+        let (x, y) = (u % 10, u / 10);
+        let next = [(x > 0, u.wrapping_sub(1)), (x < 9, u + 1), (y > 0, u.wrapping_sub(10)), (y < 9, u + 10)];
+        for (_, v) in next.into_iter().filter(|n| n.0) {
+            let slow = rng.range(2, 3) as u8;
+            for (from, to, d) in [(2 * u, 2 * v + 1, 2), (2 * u + 1, 2 * v + 1, 1), (2 * u + 1, 2 * v, slow)] {
+                let sweeps = vec![Sweep { cell: u as u8, a: 0, b: 1 }, Sweep { cell: v as u8, a: 1, b: d }];
+                motions.push(Motion { from: from as u16, to: to as u16, d, sweeps });
+            }
+        }
+    }
+    for i in (1..motions.len()).rev() {
+        motions.swap(i, rng.below(i + 1));
+    }
+    motions.truncate(MOTIONS);
+    Site { h: H, c: 100, states, motions }
+}
+
+fn scattered(rng: &mut Rng, c: usize, span: (usize, usize), sweeps: usize) -> Site {
+    let states: Vec<State> = (0..STATES).map(|_| State { cell: rng.below(c) as u8, speed: rng.percent(40) as u8 }).collect();
+    let motions = (0..MOTIONS)
+        .map(|_| {
+            let from = rng.below(STATES);
+            let to = (from + rng.range(1, STATES - 1)) % STATES;
+            let (d, n) = (rng.range(span.0, span.1), rng.range(1, sweeps));
+            motion_between(rng, c, &states, from, to, d, n)
+        })
+        .collect();
+    Site { h: H, c, states, motions }
+}
+
+fn corridor(rng: &mut Rng) -> Site {
+    let states: Vec<State> = (0..STATES).map(|i| State { cell: (i / 2) as u8, speed: (i % 2) as u8 }).collect();
+    let motions = (0..MOTIONS)
+        .map(|k| {
+            let from = k % STATES;
+            let reach = rng.range(1, 3);
+            let to = if (rng.percent(70) && from + reach < STATES) || from < reach { from + reach } else { from - reach };
+            let (d, n) = (rng.range(2, 9), rng.range(2, 4));
+            motion_between(rng, 100, &states, from, to, d, n)
+        })
+        .collect();
+    Site { h: H, c: 100, states, motions }
+}
+
+fn board(rng: &mut Rng, site: &Site, percent: usize, run: (usize, usize)) -> Vec<u8> {
+    let mut board = vec![0; site.board_len()];
+    let pairs = site.c * (H + 1);
+    let mut held = 0;
+    while held < pairs * percent / 100 {
+        let (cell, first, len) = (rng.below(site.c), rng.below(H + 1), rng.range(run.0, run.1));
+        for byte in board[4 + cell * (H + 1)..][first..(first + len).min(H + 1)].iter_mut().filter(|byte| **byte == 0) {
+            *byte = rng.range(100, 254) as u8;
+            held += 1;
+        }
+    }
+    board
+}
+
+struct Case {
+    kind: usize,
+    site: Vec<u8>,
+    board: Vec<u8>,
+    start: u16,
+    tick: u16,
+    goal: u16,
+}
+
+const SITES: [&str; 4] = ["grid", "random", "long", "corridor"];
+const BOARDS: [&str; 3] = ["short runs", "long runs", "few runs"];
+
+/// A case of a kind, with an arrival at least 400 ticks after its start.
+fn case(rng: &mut Rng, kind: usize, out: &mut [u8], work: &mut [u32]) -> Case {
+    loop {
+        let site = match kind / 3 {
+            0 => grid(rng),
+            1 => scattered(rng, 100, (1, 8), 4),
+            2 => scattered(rng, 200, (10, 120), 16),
+            _ => corridor(rng),
+        };
+        let (percent, run) = [(9, (1, 4)), (9, (5, 60)), (1, (5, 60))][kind % 3];
+        let booked = board(rng, &site, percent, run);
+        let file = encode(&site);
+        for _ in 0..20 {
+            let (start, goal) = match kind / 3 {
+                3 => (rng.below(10), STATES - 2 - 2 * rng.below(5)),
+                _ => (rng.below(STATES), rng.below(STATES)),
+            };
+            if !site.standing(goal) || site.cell(start) == site.cell(goal) {
+                continue;
+            }
+            let tick = rng.below(80);
+            let mut board = booked.clone();
+            if kind / 3 != 3 || rng.percent(50) {
+                let until = rng.range(tick + 400, 900);
+                let row = &mut board[4 + site.cell(goal) * (H + 1)..][..H + 1];
+                row[..until].fill(200);
+                row[until..].fill(0);
+            }
+            let held = board[4..].iter().filter(|&&byte| byte != 0).count();
+            assert!(held * 10 <= board.len() - 4);
+            let case = Case { kind, site: file.clone(), board, start: start as u16, tick: tick as u16, goal: goal as u16 };
+            let answer = plain::route(&case.site, &case.board, 7, case.start, case.tick, case.goal, out, work);
+            if answer.number == 0 && answer.arrival as usize - tick >= 400 {
+                return case;
+            }
+        }
+    }
+}
+
+type Route = fn(&[u8], &[u8], u8, u16, u16, u16, &mut [u8], &mut [u32]) -> Answer;
+
+/// The time of one call, in microseconds, from areas cleared just before.
+fn time(route: Route, case: &Case, out: &mut [u8], work: &mut [u32]) -> (f64, Answer) {
+    out.fill(0);
+    work.fill(0);
+    let began = Instant::now();
+    let answer = route(black_box(&case.site), black_box(&case.board), 7, case.start, case.tick, case.goal, out, work);
+    (began.elapsed().as_secs_f64() * 1e6, answer)
+}
+
+fn median(times: &mut [f64]) -> f64 {
+    times.sort_by(f64::total_cmp);
+    times[times.len() / 2]
+}
+
+fn setting(name: &str, default: u64) -> u64 {
+    std::env::var(name).map_or(default, |text| text.parse().unwrap_or_else(|_| panic!("{name} is no number")))
+}
+
+fn main() {
+    let (routes, seed) = (setting("ROUTES", 1_000) as usize, setting("SEED", 1));
+    println!("{routes} routes, seed {seed}; microseconds for the whole call, median");
+    let mut rng = Rng::new(seed);
+    let needed = STATES * (H + 1);
+    let (mut out, mut work) = (vec![0; 16 + 5 * H], vec![0; needed]);
+    let (mut other_out, mut other_work) = (out.clone(), work.clone());
+    let mut times: Vec<(Vec<f64>, Vec<f64>)> = vec![(vec![], vec![]); 12];
+    for i in 0..routes {
+        let case = case(&mut rng, i % 12, &mut out, &mut work);
+        // The programs take turns, and the middle of three turns counts, as other work disturbs single calls.
+        let (mut desk_times, mut plain_times) = (vec![], vec![]);
+        for _ in 0..3 {
+            let (by_desk, answer) = time(desk::route, &case, &mut out, &mut work);
+            let (by_plain, wanted) = time(plain::route, &case, &mut other_out, &mut other_work);
+            assert!(answer == wanted && out == other_out && work == other_work, "route {i} differs: {answer:?}, {wanted:?}");
+            desk_times.push(by_desk);
+            plain_times.push(by_plain);
+        }
+        times[case.kind].0.push(median(&mut desk_times));
+        times[case.kind].1.push(median(&mut plain_times));
+    }
+    println!("{:22} {:>6} {:>9} {:>9} {:>7}", "site, board", "routes", "desk", "plain", "ratio");
+    let mut all = (vec![], vec![]);
+    for (kind, (desk_times, plain_times)) in times.iter_mut().enumerate().filter(|(_, times)| !times.0.is_empty()) {
+        let (by_desk, by_plain) = (median(desk_times), median(plain_times));
+        println!(
+            "{:22} {:>6} {by_desk:>9.0} {by_plain:>9.0} {:>7.2}",
+            format!("{}, {}", SITES[kind / 3], BOARDS[kind % 3]),
+            desk_times.len(),
+            by_desk / by_plain
+        );
+        all.0.extend_from_slice(desk_times);
+        all.1.extend_from_slice(plain_times);
+    }
+    let (by_desk, by_plain) = (median(&mut all.0), median(&mut all.1));
+    println!("{:22} {:>6} {by_desk:>9.0} {by_plain:>9.0} {:>7.2}", "all", all.0.len(), by_desk / by_plain);
+}

@@ -1,0 +1,23 @@
+//! Tests of the release desk: its seven exported calls against independent programs in Rust.
+//!
+//! - `desk`: the exported calls, wrapped.
+//! - `plain`: an independent program for the same calls, with a fast timestep search.
+//! - `literal`: the definitions of document 01, written as they read and slow.
+//! - `plain_board`: the plain board of document 01, on `literal`.
+//! - `gen`: seeded sites, boards, lights and calls.
+//! - `day`: what the day program must print.
+
+pub mod day;
+pub mod desk;
+pub mod four;
+pub mod gen;
+pub mod literal;
+pub mod plain;
+pub mod plain_board;
+#[cfg(feature = "standin")]
+pub mod standin;
+
+/// README.md, so that its lines in Rust are run.
+#[cfg(doctest)]
+#[doc = include_str!("../../README.md")]
+pub struct Readme;
