@@ -13,11 +13,11 @@ use borrow.Author.Tests.{leb-true, le-leb, lt-leb, lt-ltb, le-ltb, ltb-true, ltb
 use Rattle.meaning.specs.Basics.{every, least, isZero}
 use Rattle.meaning.specs.Site.{Site, Motion, cellOf, motionAt}
 use Rattle.meaning.specs.Board.{Free}
-use Rattle.meaning.specs.Plan.{wait, move, Node, allowed, startFree, sweepsFree}
+use Rattle.meaning.specs.Plan.{wait, move, Node, allowed, startFree, sweepsFree, node as at}
 use Rattle.meaning.specs.Reach.{wordBy, rowsTo, reachWord, reached, wordIn}
 use Rattle.meaning.specs.WellFormed.{WellFormed}
 use Rattle.meaning.proofs.BasicsLaws.{decide, and-left, and-right, every-at, every-nil, every-cons, least-same, least-snoc, least-more, same-test}
-use Rattle.meaning.proofs.ReachLaws.{at, waited, arrives, word-first, word-next, word-row}
+use Rattle.meaning.proofs.ReachLaws.{waited, arrives, word-first, word-next, word-row}
 use Rattle.rows.specs.Rows.{has}
 use Rattle.rounds.specs.Arrays.{cellAt, speedAt, fromAt, toAt, spanAt}
 use Rattle.reach.specs.Decoded.{reachedAt, ReachedRows}

@@ -10,8 +10,9 @@ ghost use Rattle.meaning.specs.Site.{Site};
 ghost use Rattle.meaning.specs.Board.{Free};
 ghost use Rattle.meaning.specs.WellFormed.{WellFormed};
 ghost use Rattle.meaning.specs.Reach.{wordBy, reachWord};
+ghost use Rattle.meaning.specs.Plan.{node};
 ghost use Rattle.rounds.specs.Arrays.{States, Motions};
-ghost use Rattle.reach.specs.Decoded.{node, ReachedRows};
+ghost use Rattle.reach.specs.Decoded.{ReachedRows};
 ghost use Rattle.back.specs.Words.{waitHit, moveHit, firstMove, arrivalIn, Sets};
 
 // The first tick from `tick` on at which the goal is reached, or the tick after the horizon.

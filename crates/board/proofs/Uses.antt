@@ -4,13 +4,13 @@ use Prim.Native.Nat.{ℕ, suc, _+_, _≤_, _<_, _-_}
 use native.Mathlib.Omega.{arith}
 use mathlib.Core.Path.{_≡_, ap, _∙_}
 use mathlib.Core.Bool.{cond}
-use mathlib.Core.List.{List, [], _∷_, map}
+use mathlib.Core.List.{List, map}
 use lib.Dec.{eqb}
 use lib.ListN.{length, take, drop, List·getD-append}
 use lib.Seq.{length-take-le, getD-take}
 use Rattle.meaning.specs.Limits.{horizonLimit, header}
 use Rattle.meaning.specs.Site.{Site}
-use Rattle.meaning.specs.Board.{Free, Pair, boardLength, edition, allFree, run, runTo, mark, clear, withEdition, nextEdition}
+use Rattle.meaning.specs.Board.{Free, Pair, boardLength, edition, allFree, runTo, mark, clear, withEdition, nextEdition}
 use Rattle.meaning.specs.Plan.{freeFromTo}
 use Rattle.meaning.proofs.BoardLaws.{place-in, same-edition, edition-mark}
 use Rattle.meaning.proofs.PlanLaws.{run-free}
@@ -30,11 +30,6 @@ row-on site size cell tick e short hc ht = record {
 
 pub run-to-free : (f : Free) (c first last : ℕ) → allFree f (runTo c first last) ≡ freeFromTo f c first last
 run-to-free f c first last = run-free f c first (suc last - first)
-
--- ---- a run of one tick
-
-pub run-one : (c t : ℕ) → runTo c t t ≡ record { cell = c; tick = t } ∷ []
-run-one c t = let one : suc t - t ≡ 1 = omega arith in ap (run c t) one
 
 -- ---- the next edition, read before or after a change
 

@@ -4,18 +4,18 @@ use Prim.Native.Nat.{ℕ, zero, suc, _+_, _*_, _<_, _≤_}
 use native.Mathlib.Omega.{arith}
 use native.Mathlib.Nat.{mul-le-mul-right}
 use mathlib.Core.Path.{_≡_, refl, sym, ap, _∙_}
-use mathlib.Core.Bool.{Bool, true, false, not, _&&_, and-true, and-false, false≢true}
+use mathlib.Core.Bool.{Bool, true, false, not, and-true}
 use mathlib.Core.List.{List, [], _∷_}
 use lib.Dec.{leb, ltb}
-use lib.ListN.{length, getD}
+use lib.ListN.{length}
 use borrow.Author.Tests.{ltb-true, leb-true, lt-ltb, le-ltb, le-leb, lt-leb}
 use Rattle.meaning.specs.Limits.{header, lastEdition}
 use Rattle.meaning.specs.Basics.{every}
 use Rattle.meaning.specs.Answers.{lowest, answer, accepted, refused}
 use Rattle.meaning.specs.Site.{Site, siteOf, siteRefusals, readSite}
 use Rattle.meaning.specs.Board.{boardLength, edition, Pair, runTo, mark, clear, nextEdition}
-use Rattle.meaning.specs.Calls.{PublicCall, opening, Lent, Room, close, withdraw, changed, runNamed, intervalRefusals, laterRefusals, refusals}
-use Rattle.meaning.proofs.BasicsLaws.{every-at}
+use Rattle.meaning.specs.Calls.{PublicCall, opening, Lent, Room, close, withdraw, changed, runNamed, intervalRefusals, laterRefusals, refusals, onBoard}
+use Rattle.meaning.proofs.BasicsLaws.{every-at, every-fails}
 use Rattle.meaning.proofs.CheckLaws.{hit, miss, none-left, site-refused, size-refused, size-passed, as-open, past-open}
 use Rattle.meaning.proofs.BoardLaws.{length-mark, edition-mark, length-clear}
 use Rattle.meaning.proofs.SiteLaws.{read-site}
@@ -26,7 +26,6 @@ use Rattle.site.proofs.Accepted.{accepted-read, accepted-layout, refused-read}
 use Rattle.board.proofs.Uses.{edition-clear, next-mark, next-clear}
 use Rattle.calls.specs.declared.Check.the-variants.{Passed, Refused}
 use Rattle.calls.specs.Checks.{byNumber, checkBy, Says}
-use Rattle.meaning.specs.Calls.{onBoard}
 
 -- ---- an answer by its number
 
@@ -55,28 +54,21 @@ refused-number k m (suc n) e = let same : m ≡ suc n = cc in (sym same, omega a
 pub told : {r t b : Bool} → r ≡ t → not r ≡ b → not t ≡ b
 told e h = sym (ap not e) ∙ h
 
--- one of some tests fails
-every-fails : (tests : List Bool) (i : ℕ) → getD tests i true ≡ false → false ≡ every tests
-unfolding every
-every-fails [] i h = absurd (false≢true (sym h))
-every-fails (b ∷ bs) zero h = simp h
-every-fails (b ∷ bs) (suc i) h = sym (ap (λ (x : Bool). b && x) (sym (every-fails bs i h)) ∙ and-false b)
-
 module _ (site : Site) (cell first last : ℕ) where
   abbrev tests : List Bool
   tests = ltb cell (site .cells) ∷ leb first (site .horizon) ∷ leb last (site .horizon) ∷ leb first last ∷ []
 
   pub no-cell : site .cells ≤ cell → false ≡ runNamed site cell first last
   unfolding runNamed
-  no-cell h = every-fails tests 0 (le-ltb _ _ h)
+  no-cell h = sym (every-fails tests 0 (le-ltb _ _ h))
 
   pub first-late : site .horizon < first → false ≡ runNamed site cell first last
   unfolding runNamed
-  first-late h = every-fails tests 1 (lt-leb _ _ h)
+  first-late h = sym (every-fails tests 1 (lt-leb _ _ h))
 
   pub last-late : site .horizon < last → false ≡ runNamed site cell first last
   unfolding runNamed
-  last-late h = every-fails tests 2 (lt-leb _ _ h)
+  last-late h = sym (every-fails tests 2 (lt-leb _ _ h))
 
   pub in-order : cell < site .cells → first ≤ site .horizon → last ≤ site .horizon → leb first last ≡ runNamed site cell first last
   unfolding runNamed every
@@ -115,9 +107,10 @@ sketch horizon cells = record { horizon = horizon; cells = cells; states = []; m
 pub sketched : (l : Layout) → Says l (sketch (l .horizon) (l .cells))
 sketched l = record { cells = refl; horizon = refl }
 
-pub size-small : (cells horizon : ℕ) → cells < 256 → horizon ≤ 1000 → cells * (horizon + 1) ≤ 256256
-size-small cells horizon hc hh =
-    let top : cells * (horizon + 1) ≤ 256 * (horizon + 1) = mul-le-mul-right (horizon + 1) (omega arith) in
+-- a number for each of n and each tick
+pub size-small : (n horizon : ℕ) → n ≤ 256 → horizon ≤ 1000 → n * (horizon + 1) ≤ 256256
+size-small n horizon few short =
+    let top : n * (horizon + 1) ≤ 256 * (horizon + 1) = mul-le-mul-right (horizon + 1) few in
     omega arith
 
 -- ---- numbers 1 to 7

@@ -9,21 +9,21 @@ use lib.ListN.{length, getD}
 use borrow.Author.Tests.{ltb-true, leb-true, eqb-false, not-false}
 use Rattle.meaning.specs.Limits.{header, lastEdition}
 use Rattle.meaning.specs.Basics.{Each}
-use Rattle.meaning.specs.Answers.{lowest}
-use Rattle.meaning.specs.Site.{siteOf}
+use Rattle.meaning.specs.Answers.{lowest, accepted}
+use Rattle.meaning.specs.Site.{siteOf, readSite}
 use Rattle.meaning.specs.Board.{boardLength, edition}
 use Rattle.meaning.specs.WellFormed.{WellFormed}
-use Rattle.meaning.specs.Calls.{PublicCall, interval, listed, close, withdraw, Lent, runNamed, bytesView, intervalRefusals, closeRefusals, withdrawRefusals, laterRefusals, refusals}
+use Rattle.meaning.specs.Calls.{PublicCall, interval, listed, close, withdraw, Lent, runNamed, bytesView, intervalRefusals, closeRefusals, withdrawRefusals, laterRefusals, refusals, lends, onBoard}
 use Rattle.meaning.proofs.AnswersLaws as AnswersLaws
-use Rattle.meaning.proofs.CallLaws.{Parts, parts, board-sized}
-use Rattle.meaning.proofs.SiteLaws.{read-well, site-read}
+use Rattle.meaning.proofs.CallLaws.{Parts, none-parts, parts-read, board-sized}
+use Rattle.meaning.proofs.SiteLaws.{read-well}
+use Rattle.meaning.proofs.BoardLaws.{edition-small}
 use Rattle.site.specs.Check.{layoutOf}
 use Rattle.site.specs.declared.Layout.{Layout}
 use Rattle.board.specs.Runs.{Row}
 use Rattle.board.proofs.Uses.{row-on}
 use Rattle.calls.specs.declared.Check.the-variants.{Passed}
 use Rattle.calls.specs.Checks.{checkBy, Says, Sized}
-use Rattle.meaning.specs.Calls.{lends, onBoard}
 use Rattle.calls.proofs.Laws.{passed-number, named-cell, named-last}
 
 -- ---- any call
@@ -36,13 +36,16 @@ module _ (file : List ℕ) (lent : Lent) (q : PublicCall) (l : Layout) (e : Pass
   layout-said = passed-number l (layoutOf (siteOf file)) (lowest (refusals file lent q)) e .1
 
   passed-parts : Parts file lent q AnswersLaws.Passed
-  passed-parts = parts AnswersLaws.Passed file lent q (AnswersLaws.lowest-none (refusals file lent q) (AnswersLaws.all-rise file lent q) none-applies)
+  passed-parts = none-parts file lent q none-applies
 
   pub later-passed : Each AnswersLaws.Passed (laterRefusals (siteOf file) lent q)
   later-passed = passed-parts .later
 
+  pub file-read : readSite file ≡ accepted (siteOf file)
+  file-read = parts-read file lent q passed-parts
+
   pub site-well : WellFormed (siteOf file)
-  site-well = read-well file (siteOf file) (site-read file (AnswersLaws.lowest-clear _ (passed-parts .of-site)))
+  site-well = read-well file (siteOf file) file-read
 
   pub board-length : length (lent .board) ≡ boardLength (siteOf file)
   board-length = board-sized file lent (passed-parts .of-board)
@@ -67,12 +70,7 @@ site-row file lent q l e cell tick hc ht =
 
 -- a board is made of bytes: an edition that is not the last is below it
 pub edition-below : (board : List ℕ) → ((i : ℕ) → getD board i 0 < 256) → (edition board ≡ lastEdition → ⊥) → edition board < lastEdition
-edition-below board bytes other =
-    let b0 = bytes 0 in
-    let b1 = bytes 1 in
-    let b2 = bytes 2 in
-    let b3 = bytes 3 in
-    omega arith
+edition-below board bytes other = let small = edition-small board bytes in omega arith
 
 -- ---- interval
 

@@ -6,16 +6,16 @@ use mathlib.Core.List.{List}
 use native.Mathlib.Omega.{arith}
 use lib.ListN.{length, getD}
 use Rattle.meaning.specs.Answers.{accepted}
-use Rattle.meaning.specs.Site.{Sweep, State, Motion, Site, noState, noMotion, siteOf, readSite, motionAt, motionOf}
-use Rattle.meaning.specs.WellFormed.{GoodMotion, WellFormed}
+use Rattle.meaning.specs.Site.{Sweep, Motion, Site, siteOf, readSite, motionAt, motionOf}
+use Rattle.meaning.specs.WellFormed.{WellFormed}
 use Rattle.meaning.proofs.BasicsLaws.{each-at}
-use Rattle.meaning.proofs.SiteLaws.{read-well}
+use Rattle.meaning.proofs.SiteLaws.{read-well, read-passes}
+use Rattle.meaning.proofs.MotionLaws.{good-at, cell-known}
 use Rattle.fields.specs.Places.{fieldAt}
 use Rattle.sweeps.proofs.Laws.{sweeps-length, sweeps-at}
 use Rattle.site.specs.declared.Move.{Move}
 use Rattle.site.specs.Motions.{Shows}
 use Rattle.site.proofs.Laws.{Reached, reached-more, reached-place}
-use Rattle.site.proofs.Accepted.{Passed, read-passed}
 use Rattle.rounds.specs.Arrays.{States, Motions, placeAt, countAt}
 use Rattle.reach.specs.Decoded.{Decoded, SweepsIn, Sweeps}
 use Rattle.decode.specs.Decodes.{StatesHeld, Small, moveAt, MotionsHeld}
@@ -28,12 +28,6 @@ module _ (file : List ℕ) (e : readSite file ≡ accepted (siteOf file)) where
   pub well : WellFormed site
   well = read-well file site e
 
-  pub passed : Passed file
-  passed = read-passed file site e .0
-
-  motion-good : (m : ℕ) → m < length (site .motions) → GoodMotion site (motionAt site m)
-  motion-good m h = each-at (GoodMotion site) (site .motions) noMotion (well .motions-good) m h
-
   -- ---- a motion, by what was read of it
   module _ (m : ℕ) (r : Move) (h : m < length (site .motions)) (shows : Shows file (motionAt site m) r) where
     sweeps-count : length (motionAt site m .sweeps) ≡ r .count
@@ -41,7 +35,7 @@ module _ (file : List ℕ) (e : readSite file ≡ accepted (siteOf file)) where
 
     motion-small : Small r
     motion-small =
-        let good = motion-good m h in
+        let good = good-at site well m h in
         let s = well .states-range in
         let c = sweeps-count in
         let f = shows .from in
@@ -51,7 +45,7 @@ module _ (file : List ℕ) (e : readSite file ≡ accepted (siteOf file)) where
         let b = good .to-below in
         let lo = good .some-sweeps in
         let hi = good .few-sweeps in
-        let z = passed .short in
+        let z = read-passes file site e .short in
         record { from = omega arith; to = omega arith; first = omega arith; count = omega arith }
 
     sweep-order : (j : ℕ) → j < r .count → getD file (r .first + j * 3 + 1) 0 ≤ getD file (r .first + j * 3 + 2) 0
@@ -59,7 +53,7 @@ module _ (file : List ℕ) (e : readSite file ≡ accepted (siteOf file)) where
         let ws = motionAt site m .sweeps in
         let none : Sweep = record { cell = 0; first = 0; last = 0 } in
         let c = sweeps-count in
-        let fit = each-at _ ws none (motion-good m h .sweeps-fit) j (omega arith) in
+        let fit = each-at _ ws none (good-at site well m h .sweeps-fit) j (omega arith) in
         let here = ap (λ (l : List Sweep). getD l j none) (sym (shows .sweeps)) ∙ sweeps-at j (r .count) file (r .first) none q (shows .inside) in
         let p : r .first + 3 * j ≡ r .first + j * 3 = omega arith in
         rw (← p) (subst (λ (w : Sweep). w .first ≤ w .last) here (fit .1))
@@ -90,7 +84,7 @@ module _ (file : List ℕ) (e : readSite file ≡ accepted (siteOf file)) where
           long = omega arith;
           cell = λ s h.
               let c = held s (omega arith) .0 in
-              let b = each-at (λ (x : State). x .cell < site .cells) (site .states) noState (well .state-cells) s (omega arith) in
+              let b = cell-known site well s (omega arith) in
               omega arith;
         }
 
@@ -102,13 +96,13 @@ module _ (file : List ℕ) (e : readSite file ≡ accepted (siteOf file)) where
         record {
           few = omega arith;
           long = omega arith;
-          from = λ m h. let x = held m (omega arith) .shows .from in let b = motion-good m (omega arith) .from-below in omega arith;
-          to = λ m h. let x = held m (omega arith) .shows .to in let b = motion-good m (omega arith) .to-below in omega arith;
+          from = λ m h. let x = held m (omega arith) .shows .from in let b = good-at site well m (omega arith) .from-below in omega arith;
+          to = λ m h. let x = held m (omega arith) .shows .to in let b = good-at site well m (omega arith) .to-below in omega arith;
           span = λ m h.
               let x = held m (omega arith) in
               let d = x .shows .span in
               let s = x .span in
-              let b = motion-good m (omega arith) .takes-time in
+              let b = good-at site well m (omega arith) .takes-time in
               (omega arith, omega arith);
         }
 

@@ -10,7 +10,7 @@ use denote.Ref.{RefT, now}
 use Rattle.meaning.specs.Calls.{PublicCall, opening, interval, listed, Call, route, audit, post, close, withdraw, Lent, lends, onBoard, Done, meant}
 use Rattle.meaning.specs.Demands.{Exact, Demand1, Demand2, Demand3, Follows}
 use Rattle.meaning.proofs.Theorems.{exact-demands}
-use Rattle.routes.specs.Checks.{nodeAt}
+use Rattle.meaning.specs.Plan.{node}
 use Rattle.dispatch.specs.declared.Answer.{Answer}
 use Rattle.dispatch.specs.declared.Counted.{Counted}
 use Rattle.dispatch.specs.declared.Granted.{Granted}
@@ -37,7 +37,7 @@ pub data Calls : List ℕ → Lent → PublicCall → Done → Type 0 where
       (record { number = countedNumber r; values = countedValues r; lent = lends (now board) (now left) words })
   routes : (κs : Lfts 4) (file board out words left cleared : RefT (List ℕ)) (tug start tick goal : ℕ) (r : Granted)
       → route-reads.Learnt κs (file, (board, (tug, (start, (tick, (goal, (out, (words, tt)))))))) r (file, (board, (tug, (start, (tick, (goal, (left, (cleared, tt))))))))
-      → Calls (now file) (lends (now board) (now out) (now words)) (listed (route tug (nodeAt start tick) goal))
+      → Calls (now file) (lends (now board) (now out) (now words)) (listed (route tug (node start tick) goal))
       (record { number = grantedNumber r; values = grantedValues r; lent = lends (now board) (now left) (now cleared) })
   audits : (κs : Lfts 3) (file board light : RefT (List ℕ)) (out words : List ℕ) (r : Answer)
       → audit-reads.Learnt κs (file, (board, (light, tt))) r (file, (board, (light, tt)))
@@ -65,7 +65,7 @@ exact file l q d (Calls.counts κs f board out left cell words r p) =
     (ap countedNumber (p .0) ∙ counted-number (now f) lent cell) (ap countedValues (p .0) ∙ counted-values (now f) lent cell) (p .1)
 exact file l q d (Calls.routes κs f board out words left cleared tug start tick goal r p) =
     let lent : Lent = lends (now board) (now out) (now words) in
-    route-exact (now f) lent tug (nodeAt start tick) goal (grantedNumber r) (grantedValues r) (now left) (now cleared)
+    route-exact (now f) lent tug (node start tick) goal (grantedNumber r) (grantedValues r) (now left) (now cleared)
     (ap grantedNumber (p .0) ∙ granted-number (now f) lent tug start tick goal) (ap grantedValues (p .0) ∙ granted-values (now f) lent tug start tick goal)
     (p .1 .0) (p .1 .1)
 exact file l q d (Calls.audits κs f board light out words r p) = audit-exact (now f) (now board) out words (now light) (numberOf r) (answered r _ p)

@@ -12,12 +12,13 @@ use Rattle.meaning.specs.Reach.{Route}
 use Rattle.meaning.specs.Light.{Light, encode}
 use Rattle.meaning.specs.Calls.{PublicCall, listed, route, lightRoom, wordsNeeded, Lent, lends, over, refusals, Done, grantedDone, acceptedDone, refusedDone, doneBy, meant}
 use Rattle.meaning.proofs.CallLaws.{meant-number}
+use Rattle.meaning.specs.Plan.{node}
 use Rattle.site.specs.Check.{layoutOf}
 use Rattle.site.specs.declared.Layout.{Layout}
 use Rattle.calls.specs.declared.Check.the-variants.{Passed, Refused}
 use Rattle.calls.specs.Checks.{checkBy}
-use Rattle.routes.specs.Checks.{nodeAt, checksTo14}
-use Rattle.routes.proofs.Laws.{words-small}
+use Rattle.routes.specs.Checks.{checksTo14}
+use Rattle.calls.proofs.Laws.{size-small}
 use Rattle.routes.proofs.Passes as routes
 use Rattle.find.specs.declared.Found.the-variants as F
 use Rattle.find.specs.Finds.{Asked, routeOn, lightOn, foundOf, outOf}
@@ -27,22 +28,22 @@ use Rattle.dispatch.specs.Answers.{grantedNumber, grantedValues, granted
 
 -- ---- each case of an answer has the number and the values that are meant
 
-granted-case : (site : Site) (l : Lent) (c : PublicCall) (tug start tick goal n : ℕ) → c ≡ listed (route tug (nodeAt start tick) goal)
+granted-case : (site : Site) (l : Lent) (c : PublicCall) (tug start tick goal n : ℕ) → c ≡ listed (route tug (node start tick) goal)
     → (grantedNumber (grantedOf (doneBy site l c n)) ≡ n) × (grantedValues (grantedOf (doneBy site l c n)) ≡ doneBy site l c n .values)
 unfolding acceptedDone refusedDone
 granted-case site l c tug start tick goal zero e = rw e (refl, refl)
 granted-case site l c tug start tick goal (suc n) e = (refl, refl)
 
 module _ (file : List ℕ) (l : Lent) (tug start tick goal : ℕ) where
-  pub granted-number : grantedNumber (grantedOf (meant file l (listed (route tug (nodeAt start tick) goal)))) ≡ meant file l (listed (route tug (nodeAt start tick) goal)) .number
+  pub granted-number : grantedNumber (grantedOf (meant file l (listed (route tug (node start tick) goal)))) ≡ meant file l (listed (route tug (node start tick) goal)) .number
   unfolding meant
   granted-number =
-      granted-case (siteOf file) l _ tug start tick goal (lowest (refusals file l (listed (route tug (nodeAt start tick) goal)))) refl .0
-      ∙ sym (meant-number file l (listed (route tug (nodeAt start tick) goal)))
+      granted-case (siteOf file) l _ tug start tick goal (lowest (refusals file l (listed (route tug (node start tick) goal)))) refl .0
+      ∙ sym (meant-number file l (listed (route tug (node start tick) goal)))
 
-  pub granted-values : grantedValues (grantedOf (meant file l (listed (route tug (nodeAt start tick) goal)))) ≡ meant file l (listed (route tug (nodeAt start tick) goal)) .values
+  pub granted-values : grantedValues (grantedOf (meant file l (listed (route tug (node start tick) goal)))) ≡ meant file l (listed (route tug (node start tick) goal)) .values
   unfolding meant
-  granted-values = granted-case (siteOf file) l _ tug start tick goal (lowest (refusals file l (listed (route tug (nodeAt start tick) goal)))) refl .1
+  granted-values = granted-case (siteOf file) l _ tug start tick goal (lowest (refusals file l (listed (route tug (node start tick) goal)))) refl .1
 
 -- ---- by the answer of the checks
 
@@ -55,10 +56,10 @@ module _ (file board out words : List ℕ) (tug start tick goal : ℕ) where
   lent = lends board out words
 
   abbrev is : Done
-  is = meant file lent (listed (route tug (nodeAt start tick) goal))
+  is = meant file lent (listed (route tug (node start tick) goal))
 
   abbrev checked : ℕ
-  checked = lowest (checksTo14 file lent tug (nodeAt start tick) goal)
+  checked = lowest (checksTo14 file lent tug (node start tick) goal)
 
   granted-refused : (n : ℕ) → 1 ≤ n → G.Refused n ≡ grantedBy n []
   granted-refused zero h = absurd (omega arith)
@@ -67,45 +68,45 @@ module _ (file board out words : List ℕ) (tug start tick goal : ℕ) where
   -- refused before the search: nothing is written
   pub route-refused : (n : ℕ) → Refused n ≡ checkBy (siteOf file) checked → Leaves is (G.Refused n) out words
   route-refused n e =
-      let same : is ≡ record { number = n; values = []; lent = lent } = routes.refused-meant file lent tug (nodeAt start tick) goal n e in
-      rw same (granted-refused n (routes.refused-range file lent tug (nodeAt start tick) goal n e .0), (refl, refl))
+      let same : is ≡ record { number = n; values = []; lent = lent } = routes.refused-meant file lent tug (node start tick) goal n e in
+      rw same (granted-refused n (routes.refused-range file lent tug (node start tick) goal n e .0), (refl, refl))
 
   module _ (l : Layout) (e : Passed l ≡ checkBy (siteOf file) checked) where
     said : l ≡ layoutOf (siteOf file)
-    said = routes.layout-said file lent tug (nodeAt start tick) goal l e
+    said = routes.layout-said file lent tug (node start tick) goal l e
 
     -- both states are known
     pub route-states : (start < length (siteOf file .states)) × (goal < length (siteOf file .states))
-    route-states = (routes.start-below file lent tug (nodeAt start tick) goal l e, routes.goal-below file lent tug (nodeAt start tick) goal l e)
+    route-states = (routes.start-below file lent tug (node start tick) goal l e, routes.goal-below file lent tug (node start tick) goal l e)
 
     pub route-asked : (from to : ℕ) → from < length (siteOf file .states) → to < length (siteOf file .states) → Asked file l (length board) from tick to
     route-asked from to from-known to-known = record {
-      read = routes.file-read file lent tug (nodeAt start tick) goal l e;
+      read = routes.file-read file lent tug (node start tick) goal l e;
       says = said;
-      sized = routes.board-length file lent tug (nodeAt start tick) goal l e;
+      sized = routes.board-length file lent tug (node start tick) goal l e;
       start-known = from-known;
       goal-known = to-known;
-      in-time = routes.tick-in-time file lent tug (nodeAt start tick) goal l e;
+      in-time = routes.tick-in-time file lent tug (node start tick) goal l e;
     }
 
     pub route-room : lightRoom (siteOf file) ≤ length out
-    route-room = routes.out-fits file lent tug (nodeAt start tick) goal l e
+    route-room = routes.out-fits file lent tug (node start tick) goal l e
 
     -- the words that the search needs
     needed : l .states * (l .horizon + 1) ≡ wordsNeeded (siteOf file)
     needed = ap (λ (k : Layout). k .states * (k .horizon + 1)) said
 
     pub route-words : l .states * (l .horizon + 1) ≤ length words
-    route-words = rw needed (routes.words-fit file lent tug (nodeAt start tick) goal l e)
+    route-words = rw needed (routes.words-fit file lent tug (node start tick) goal l e)
 
     pub horizon-small : l .horizon ≤ 1000
-    horizon-small = rw said (routes.site-well file lent tug (nodeAt start tick) goal l e .horizon-range .1)
+    horizon-small = rw said (routes.site-well file lent tug (node start tick) goal l e .horizon-range .1)
 
     states-small : l .states ≤ 256
-    states-small = rw said (routes.site-well file lent tug (nodeAt start tick) goal l e .states-range .1)
+    states-small = rw said (routes.site-well file lent tug (node start tick) goal l e .states-range .1)
 
     pub words-few : l .states * (l .horizon + 1) ≤ 256256
-    words-few = words-small (l .states) (l .horizon) states-small horizon-small
+    words-few = size-small (l .states) (l .horizon) states-small horizon-small
 
     abbrev o : Option Route
     o = routeOn file board start tick goal
@@ -128,7 +129,7 @@ module _ (file board out words : List ℕ) (tug start tick goal : ℕ) where
             let no : F.Route len arrival ≡ F.Nothing = f ∙ ap (λ (x : Option Route). foundOf x light) q in
             absurd (let y : _≡_ {A = ℕ} 0 1 = cc in omega arith)
         by-route (some r) q =
-            let same : is ≡ grantedDone (siteOf file) lent light = routes.found-meant file lent tug (nodeAt start tick) goal l e r q in
+            let same : is ≡ grantedDone (siteOf file) lent light = routes.found-meant file lent tug (node start tick) goal l e r q in
             let told : F.Route len arrival ≡ F.Route (length (encode light)) (light .arrival) = f ∙ ap (λ (x : Option Route). foundOf x light) q in
             let same-length : len ≡ length (encode light) = cc in
             let same-arrival : arrival ≡ light .arrival = cc in
@@ -142,7 +143,7 @@ module _ (file board out words : List ℕ) (tug start tick goal : ℕ) where
       where
         by-route : (p : Option Route) → o ≡ p → Leaves is (G.Refused 18) left new
         by-route none q =
-            rw (routes.none-zero file lent tug (nodeAt start tick) goal l e q)
+            rw (routes.none-zero file lent tug (node start tick) goal l e q)
             (refl, (w ∙ ap (λ (x : Option Route). outOf x light out) q, zeroed new z))
         by-route (some r) q =
             let no : F.Nothing ≡ F.Route (length (encode light)) (light .arrival) = f ∙ ap (λ (x : Option Route). foundOf x light) q in

@@ -5,7 +5,7 @@ ghost use mathlib.Core.Path.{_≡_};
 ghost use mathlib.Core.List.{[]};
 ghost use Rattle.meaning.specs.Calls.{opening, interval, listed, route, audit, post, close, withdraw, meant};
 ghost use Rattle.meaning.specs.Calls.{lends, onBoard};
-ghost use Rattle.routes.specs.Checks.{nodeAt};
+ghost use Rattle.meaning.specs.Plan.{node};
 ghost use Rattle.dispatch.specs.Answers.{answerOf, countedOf, grantedOf};
 
 // The answer of a call that returns its number alone.
@@ -66,9 +66,9 @@ pub fn route(
     out: &mut [u8],
     work: &mut [u32],
 ) -> Granted
-    ensures { λ r. ⌜ r ≡ grantedOf (meant (now (file .entry)) (lends (now (board .entry)) (now (out .entry)) (now (work .entry))) (listed (route tug (nodeAt start tick) goal))) ⌝ }
-    ensures { λ _. ⌜ now (out .exit) ≡ meant (now (file .entry)) (lends (now (board .entry)) (now (out .entry)) (now (work .entry))) (listed (route tug (nodeAt start tick) goal)) .lent .out ⌝ }
-    ensures { λ _. ⌜ now (work .exit) ≡ meant (now (file .entry)) (lends (now (board .entry)) (now (out .entry)) (now (work .entry))) (listed (route tug (nodeAt start tick) goal)) .lent .words ⌝ }
+    ensures { λ r. ⌜ r ≡ grantedOf (meant (now (file .entry)) (lends (now (board .entry)) (now (out .entry)) (now (work .entry))) (listed (route tug (node start tick) goal))) ⌝ }
+    ensures { λ _. ⌜ now (out .exit) ≡ meant (now (file .entry)) (lends (now (board .entry)) (now (out .entry)) (now (work .entry))) (listed (route tug (node start tick) goal)) .lent .out ⌝ }
+    ensures { λ _. ⌜ now (work .exit) ≡ meant (now (file .entry)) (lends (now (board .entry)) (now (out .entry)) (now (work .entry))) (listed (route tug (node start tick) goal)) .lent .words ⌝ }
 {
     match routes::check_route(file, board, tug, start, tick, goal, out.len(), work.len()) {
         Check::Passed(l) => {

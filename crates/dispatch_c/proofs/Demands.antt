@@ -10,7 +10,7 @@ use Rattle.meaning.specs.Calls.{PublicCall, opening, interval, listed, Call, ro
 use Rattle.meaning.specs.Demands.{Exact, Demand1, Demand2, Demand3, Follows}
 use Rattle.meaning.proofs.AreaLaws.{BoardCall}
 use Rattle.meaning.proofs.Theorems.{exact-demands}
-use Rattle.routes.specs.Checks.{nodeAt}
+use Rattle.meaning.specs.Plan.{node}
 use Rattle.dispatch.specs.Answers.{countedOf, grantedOf}
 use Rattle.dispatch.proofs.Desks.{boardDone, board-exact, audit-exact, interval-exact, route-exact, lend, turns, allows-meant, every-run}
 use Rattle.dispatch_c.specs.Words.{countedWord, grantedWord, wordNumber, countedIn, grantedIn}
@@ -34,7 +34,7 @@ pub data Exported : List ℕ → Lent → PublicCall → Done → Type 0 where
       (record { number = wordNumber w; values = countedIn w; lent = lends (now board) (now left) words })
   routes : (κs : Lfts 4) (file board out words left cleared : RefT (List ℕ)) (tug start tick goal w : ℕ)
       → route-reads.Learnt κs (file, (board, (tug, (start, (tick, (goal, (out, (words, tt)))))))) w (file, (board, (tug, (start, (tick, (goal, (left, (cleared, tt))))))))
-      → Exported (now file) (lends (now board) (now out) (now words)) (listed (route tug (nodeAt start tick) goal))
+      → Exported (now file) (lends (now board) (now out) (now words)) (listed (route tug (node start tick) goal))
       (record { number = wordNumber w; values = grantedIn w; lent = lends (now board) (now left) (now cleared) })
   audits : (κs : Lfts 3) (file board light : RefT (List ℕ)) (out words : List ℕ) (w : ℕ)
       → audit-reads.Learnt κs (file, (board, (light, tt))) w (file, (board, (light, tt)))
@@ -63,8 +63,8 @@ exact file l q d (Exported.counts κs f board out left cell words w p) =
     interval-exact (now f) (now board) (now out) words cell (wordNumber w) (countedIn w) (now left) (back .0) (back .1) (p .1)
 exact file l q d (Exported.routes κs f board out words left cleared tug start tick goal w p) =
     let lent : Lent = lends (now board) (now out) (now words) in
-    let back = route-back (now f) lent tug (nodeAt start tick) goal w (p .0) in
-    route-exact (now f) lent tug (nodeAt start tick) goal (wordNumber w) (grantedIn w) (now left) (now cleared) (back .0) (back .1) (p .1 .0) (p .1 .1)
+    let back = route-back (now f) lent tug (node start tick) goal w (p .0) in
+    route-exact (now f) lent tug (node start tick) goal (wordNumber w) (grantedIn w) (now left) (now cleared) (back .0) (back .1) (p .1 .0) (p .1 .1)
 exact file l q d (Exported.audits κs f board light out words w p) =
     audit-exact (now f) (now board) out words (now light) (wordNumber w) (number-back (now f) (onBoard (now board)) (listed (audit (now light))) w p)
 exact file l q d (Exported.posts κs f board light left out words w p) =

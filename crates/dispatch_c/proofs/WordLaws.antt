@@ -18,9 +18,9 @@ use Rattle.meaning.specs.Reach.{Route}
 use Rattle.meaning.specs.Light.{Light, encode}
 use Rattle.meaning.specs.WellFormed.{WellFormed}
 use Rattle.meaning.specs.Calls.{PublicCall, opening, interval, listed, route, audit, post, close, withdraw, Lent, bytesView, lightRoom, routeRefusals, lightRefusals, closeRefusals, withdrawRefusals, intervalRefusals, refusals, routeFound, grantedLight, acceptedDone, refusedDone, meant}
-use Rattle.meaning.proofs.AnswersLaws.{Passed, lowest-most, lowest-clear}
-use Rattle.meaning.proofs.SiteLaws.{read-well, site-read}
-use Rattle.meaning.proofs.CallLaws.{meant-number, meant-by, accepted-passed, parts, granted-found}
+use Rattle.meaning.proofs.AnswersLaws.{lowest-most}
+use Rattle.meaning.proofs.SiteLaws.{read-well}
+use Rattle.meaning.proofs.CallLaws.{meant-number, meant-by, accepted-parts, parts-read, granted-found}
 use Rattle.meaning.proofs.Theorems.{all-laws}
 use Rattle.dispatch.specs.Answers.{countedOf, grantedOf}
 use Rattle.dispatch_c.specs.Words.{countedWord, grantedWord, wordNumber, beside, countedIn, grantedIn}
@@ -96,7 +96,7 @@ module _ (file : List ℕ) (l : Lent) (tug : ℕ) (a : Node) (goal : ℕ) where
   light-short e =
       let site : Site = siteOf file in
       let z : meant file l q .number ≡ 0 = meant-number file l q ∙ e in
-      let well : WellFormed site = read-well file site (site-read file (lowest-clear (siteRefusals file) (parts Passed file l q (accepted-passed file l q z) .of-site))) in
+      let well : WellFormed site = read-well file site (parts-read file l q (accepted-parts file l q z)) in
       let (r, found) = granted-found file l tug a goal z in
       let x : Light = grantedLight site (bytesView site (l .board)) tug a goal in
       let fits : length (encode x) ≤ lightRoom site =

@@ -5,7 +5,7 @@ use dispatch::Granted;
 ghost use mathlib.Core.Path.{_≡_};
 ghost use mathlib.Core.List.{[]};
 ghost use Rattle.meaning.specs.Calls.{opening, interval, listed, route, audit, post, close, withdraw, meant, lends, onBoard};
-ghost use Rattle.routes.specs.Checks.{nodeAt};
+ghost use Rattle.meaning.specs.Plan.{node};
 ghost use Rattle.dispatch.specs.Answers.{numberOf, countedOf, grantedOf};
 ghost use Rattle.dispatch_c.specs.Words.{countedWord, grantedWord};
 
@@ -63,9 +63,9 @@ pub extern "C" fn dispatch_route(
     out: &mut [u8],
     work: &mut [u32],
 ) -> u64
-    ensures { λ r. ⌜ r ≡ grantedWord (grantedOf (meant (now (file .entry)) (lends (now (board .entry)) (now (out .entry)) (now (work .entry))) (listed (route tug (nodeAt start tick) goal)))) ⌝ }
-    ensures { λ _. ⌜ now (out .exit) ≡ meant (now (file .entry)) (lends (now (board .entry)) (now (out .entry)) (now (work .entry))) (listed (route tug (nodeAt start tick) goal)) .lent .out ⌝ }
-    ensures { λ _. ⌜ now (work .exit) ≡ meant (now (file .entry)) (lends (now (board .entry)) (now (out .entry)) (now (work .entry))) (listed (route tug (nodeAt start tick) goal)) .lent .words ⌝ }
+    ensures { λ r. ⌜ r ≡ grantedWord (grantedOf (meant (now (file .entry)) (lends (now (board .entry)) (now (out .entry)) (now (work .entry))) (listed (route tug (node start tick) goal)))) ⌝ }
+    ensures { λ _. ⌜ now (out .exit) ≡ meant (now (file .entry)) (lends (now (board .entry)) (now (out .entry)) (now (work .entry))) (listed (route tug (node start tick) goal)) .lent .out ⌝ }
+    ensures { λ _. ⌜ now (work .exit) ≡ meant (now (file .entry)) (lends (now (board .entry)) (now (out .entry)) (now (work .entry))) (listed (route tug (node start tick) goal)) .lent .words ⌝ }
 {
     granted_word(dispatch::route(file, board, tug, start, tick, goal, out, work))
 }

@@ -1,68 +1,23 @@
 -- Laws of the fields of a file, by place, and of what the reader answers there.
 -- Assumes nothing.
-use Prim.Native.Nat.{ℕ, zero, suc, _+_, _*_, _≤_, _<_}
+use Prim.Native.Nat.{ℕ, _+_, _≤_, _<_}
 use mathlib.Core.Path.{_≡_, refl, sym, ap, _∙_}
 use mathlib.Core.List.{List, [], _∷_}
 use mathlib.Core.Bool.{Bool, true, false, true≢false}
 use native.Mathlib.Omega.{arith}
-use lib.ListN.{length, getD, take, drop, length-drop}
+use lib.ListN.{length, getD, drop, length-drop}
 use lib.Seq.{drop-drop, getD-drop, getD-take, length-take-le}
 use lib.Dec.{leb}
-use borrow.Author.Tests.{le-leb, lt-leb, leb-true, leb-false}
+use borrow.Author.Tests.{leb-true, leb-false}
 use Rattle.meaning.specs.Basics.{u16At, all}
-use Rattle.meaning.specs.Fields.{Field, end, cut, next, split, fields, complete, listed}
+use Rattle.meaning.specs.Fields.{Field, end, cut, next, fields, complete, listed}
+use Rattle.meaning.proofs.FieldsLaws.{fields-end, fields-short, fields-cut, fields-next}
 use Rattle.fields.specs.Places.{fieldsAt, fieldAt, Next, Whole}
 use Rattle.fields.specs.Items.{firstItem, itemOf}
 use Rattle.fields.specs.declared.Header.{Header}
 use Rattle.fields.specs.declared.Item.{Item}
 use Rattle.fields.specs.declared.Item.the-variants.{Cut, End}
 use Rattle.fields.specs.declared.Item.the-variants as Item
-
--- more fuel changes nothing
-pub split-more : (k m : ℕ) (s : List ℕ) → length s ≤ k → length s ≤ m → split k s ≡ split m s
-unfolding split
-split-more zero zero s p q = refl
-split-more zero (suc m) [] p q = refl
-split-more zero (suc m) (x ∷ s) p q = absurd (omega arith)
-split-more (suc k) zero [] p q = refl
-split-more (suc k) zero (x ∷ s) p q = absurd (omega arith)
-split-more (suc k) (suc m) [] p q = refl
-split-more (suc k) (suc m) (t ∷ []) p q = refl
-split-more (suc k) (suc m) (t ∷ h ∷ []) p q = refl
-split-more (suc k) (suc m) (t ∷ h ∷ l ∷ s) p q =
-    let e = length-drop (h * 256 + l) s in
-    rw (split-more k m (drop (h * 256 + l) s) (omega arith) (omega arith))
-
--- the four cases, on a list
-pub fields-end : (s : List ℕ) → length s ≡ 0 → fields s ≡ end
-unfolding fields split
-fields-end [] p = refl
-fields-end (x ∷ s) p = absurd (omega arith)
-
-pub fields-short : (s : List ℕ) → 0 < length s → length s < 3 → fields s ≡ cut
-unfolding fields split
-fields-short [] p q = absurd (omega arith)
-fields-short (t ∷ []) p q = refl
-fields-short (t ∷ h ∷ []) p q = refl
-fields-short (t ∷ h ∷ l ∷ s) p q = absurd (omega arith)
-
-pub fields-cut : (s : List ℕ) → 3 ≤ length s → length s < 3 + u16At s 1 → fields s ≡ cut
-unfolding fields split
-fields-cut [] p q = absurd (omega arith)
-fields-cut (t ∷ []) p q = absurd (omega arith)
-fields-cut (t ∷ h ∷ []) p q = absurd (omega arith)
-fields-cut (t ∷ h ∷ l ∷ s) p q =
-    rw (lt-leb (h * 256 + l) (length s) (omega arith))
-
-pub fields-next : (s : List ℕ) → 3 + u16At s 1 ≤ length s →
-    fields s ≡ next (record { tag = getD s 0 0; value = take (u16At s 1) (drop 3 s) }) (fields (drop (3 + u16At s 1) s))
-unfolding fields split
-fields-next [] q = absurd (omega arith)
-fields-next (t ∷ []) q = absurd (omega arith)
-fields-next (t ∷ h ∷ []) q = absurd (omega arith)
-fields-next (t ∷ h ∷ l ∷ s) q =
-    let e = length-drop (h * 256 + l) s in
-    rw (le-leb (h * 256 + l) (length s) (omega arith), ← drop-drop (h * 256 + l) 3 (t ∷ h ∷ l ∷ s), split-more (suc (suc (length s))) (length (drop (h * 256 + l) s)) (drop (h * 256 + l) s) (omega arith) (omega arith))
 
 -- ---- by place
 pub u16-drop : (file : List ℕ) (at i : ℕ) → u16At (drop at file) i ≡ u16At file (at + i)
@@ -269,13 +224,6 @@ module _ (s : List ℕ) (at : ℕ) (h : Header) (w : Whole s at h) where
       let a = w .next in
       value-length s at (h .len) (w .len) (omega arith)
 
-  pub whole-room : h .start + h .len ≤ length s
-  whole-room =
-      let i = w .inside in
-      let a = w .next in
-      let v = w .start in
-      omega arith
-
   -- a byte and a number of its value, where they stand in the file
   pub whole-byte : (i : ℕ) → i < h .len → getD (fieldAt s at .value) i 0 ≡ getD s (h .start + i) 0
   whole-byte i p =
@@ -301,8 +249,3 @@ module _ (s : List ℕ) (at : ℕ) where
   pub says-cut : Cut ≡ itemOf s at → fields (drop at s) ≡ cut
   unfolding fieldsAt
   says-cut e = is-cut s at e
-
-  pub says-field : (h : Header) → Item.Field h ≡ itemOf s at
-      → fields (drop at s) ≡ next (record { tag = h .tag; value = take (h .len) (drop (h .start) s) }) (fields (drop (h .next) s))
-  unfolding fieldsAt fieldAt
-  says-field h e = let w = is-field s at h e in rw (w .tag, w .len, w .start) (w .fields)

@@ -16,11 +16,12 @@ use Rattle.meaning.specs.Light.{Light, encode}
 use Rattle.meaning.specs.Calls.{lightRoom, over, bytesView, grantedLight}
 use Rattle.meaning.proofs.LightLaws.{length-encode}
 use Rattle.meaning.proofs.TraceLaws.{found-steps}
+use Rattle.meaning.specs.Plan.{node}
 use Rattle.site.specs.declared.Layout.{Layout}
 use Rattle.frees.specs.Frees.{rowsFree}
 use Rattle.rounds.specs.Arrays.{cellAt, States, Motions}
 use Rattle.rounds.specs.Rounds.{Closed, Explored}
-use Rattle.reach.specs.Decoded.{Sweeps, Starts, node, ReachedRows}
+use Rattle.reach.specs.Decoded.{Sweeps, Starts, ReachedRows}
 use Rattle.back.specs.Words.{arrivalIn, Sets}
 use Rattle.back.proofs.SetsLaws.{sets-right}
 use Rattle.write.specs.Codes.{stepsIn}

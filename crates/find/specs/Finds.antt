@@ -11,9 +11,9 @@ use Rattle.meaning.specs.Board.{free, boardLength}
 use Rattle.meaning.specs.Reach.{Route, findRoute}
 use Rattle.meaning.specs.Light.{Light, encode}
 use Rattle.meaning.specs.Calls.{over, bytesView, grantedLight}
+use Rattle.meaning.specs.Plan.{node}
 use Rattle.site.specs.Check.{layoutOf}
 use Rattle.site.specs.declared.Layout.{Layout}
-use Rattle.reach.specs.Decoded.{node}
 use Rattle.write.specs.Codes.{stepsIn}
 use Rattle.find.specs.declared.Plan.{Plan}
 use Rattle.find.specs.declared.Plan.the-variants.{Steps, Missing}

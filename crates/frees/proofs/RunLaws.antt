@@ -4,7 +4,7 @@ use Prim.Native.Nat.{ℕ, zero, suc, _+_, _-_, _*_, _/_, _%_, _^_, _≤_, _<_}
 use native.Mathlib.Nat.{zero-add}
 use native.Mathlib.Omega.{arith}
 use mathlib.Core.Path.{_≡_, refl, sym, ap, ap₂, _∙_, subst}
-use mathlib.Core.Bool.{Bool, true, false, _&&_, and-true}
+use mathlib.Core.Bool.{Bool, false, _&&_, and-true}
 use mathlib.Core.List.{List}
 use lib.Bits.{bitAnd, and-le-l}
 use lib.Dec.{ltb}
@@ -12,7 +12,7 @@ use lib.ListN.{length, getD, set, replicate}
 use borrow.Author.Tests.{ltb-true, ltb-false, lt-ltb, le-ltb}
 use Rattle.meaning.specs.Basics.{allFrom}
 use Rattle.meaning.specs.Plan.{freeFromTo}
-use Rattle.meaning.proofs.BasicsLaws.{decide, and-left, and-right, same-test, allFrom-at}
+use Rattle.meaning.proofs.BasicsLaws.{decide, and-left, and-right, same-test, allFrom-in, allFrom-true}
 use Rattle.rows.specs.Bits.{bit, windowOf}
 use Rattle.rows.specs.Rows.{at, has, Words, Changed}
 use Rattle.frees.specs.Frees.{rowsFree, narrowed, Overlap, Runs}
@@ -22,29 +22,20 @@ use Rattle.rows.proofs.RowLaws.{zeros-at, zero-bit, mapRow, map-after, map-bit,
 
 -- ---- runs of a test
 
-all-true : (p : ℕ → Bool) (t n : ℕ) → ((x : ℕ) → t ≤ x → x < t + n → p x ≡ true) → allFrom p t n ≡ true
-all-true p t zero h = refl
-all-true p t (suc n) h = simp (h t (omega arith) (omega arith), all-true p (suc t) n (λ x lo hi. h x (omega arith) (omega arith)))
-
-all-at : (p : ℕ → Bool) (t n x : ℕ) → allFrom p t n ≡ true → t ≤ x → x < t + n → p x ≡ true
-all-at p t n x h lo hi =
-    let same : t + (x - t) ≡ x = omega arith in
-    subst (λ (y : ℕ). p y ≡ true) same (allFrom-at p t n (x - t) h (omega arith))
-
 -- two runs of n ticks, the second k ticks later, are one of n + k
 join : (p : ℕ → Bool) (t n k : ℕ) → k ≤ n → (allFrom p t n && allFrom p (t + k) n) ≡ allFrom p t (n + k)
 join p t n k few =
     same-test _ _
     (λ h.
-    all-true p t (n + k)
+    allFrom-true p t (n + k)
     (λ x lo hi.
     decide (ltb x (t + n))
-    (λ e. all-at p t n x (and-left _ (allFrom p (t + k) n) h) lo (ltb-true x (t + n) e))
-    (λ e. all-at p (t + k) n x (and-right (allFrom p t n) _ h) (omega (arith, ltb-false x (t + n) e)) (omega arith))))
+    (λ e. allFrom-in p t n x (and-left _ (allFrom p (t + k) n) h) lo (ltb-true x (t + n) e))
+    (λ e. allFrom-in p (t + k) n x (and-right (allFrom p t n) _ h) (omega (arith, ltb-false x (t + n) e)) (omega arith))))
     (λ h.
     ap₂ (λ (a b : Bool). a && b)
-    (all-true p t n (λ x lo hi. all-at p t (n + k) x h lo (omega arith)))
-    (all-true p (t + k) n (λ x lo hi. all-at p t (n + k) x h (omega arith) (omega arith))))
+    (allFrom-true p t n (λ x lo hi. allFrom-in p t (n + k) x h lo (omega arith)))
+    (allFrom-true p (t + k) n (λ x lo hi. allFrom-in p t (n + k) x h (omega arith) (omega arith))))
 
 -- ---- a row of its own, in 20 words of which the last 4 stay 0
 

@@ -3,16 +3,18 @@
 use Prim.Native.Nat.{ℕ, zero, suc, _+_, _*_, _-_, _≤_, _<_}
 use mathlib.Core.Path.{_≡_, refl, sym, ap, _∙_}
 use mathlib.Core.List.{List, [], _∷_, map}
-use mathlib.Core.Bool.{Bool, true, false, _&&_, true≢false, and-false}
+use mathlib.Core.Bool.{Bool, true, false, true≢false, and-false}
 use native.Mathlib.Omega.{arith}
-use lib.ListN.{length, getD, take, drop, length-map}
+use lib.ListN.{length, getD, take, drop}
 use lib.Dec.{leb, eqb}
 use borrow.Author.Tests.{eqb-true, eqb-false, leb-true, leb-false, eq-eqb, ne-eqb}
-use Rattle.meaning.specs.Limits.{horizonLimit, cellLimit, stateLimit, headTag, headSize}
-use Rattle.meaning.specs.Basics.{within, u16At}
+use Rattle.meaning.specs.Limits.{stateLimit}
+use Rattle.meaning.specs.Basics.{u16At}
 use Rattle.meaning.specs.Fields.{Field, noField, Fields, cut, fields, complete, listed}
 use Rattle.meaning.specs.Site.{noState, headOf, laterOf, stateCount, headGood, isState, isMotion, motionsLaid, layoutGood, stateOf, motionOf, siteOf, stateAt}
-use Rattle.meaning.proofs.BasicsLaws.{and-left, and-right, within-range}
+use Rattle.meaning.proofs.BasicsLaws.{and-left}
+use Rattle.meaning.proofs.SiteFieldsLaws.{head-good, state-parts}
+use Rattle.meaning.proofs.SiteLaws.{state-number}
 use Rattle.fields.specs.declared.Header.{Header}
 use Rattle.fields.specs.Places.{fieldsAt, fieldAt, Next, Whole}
 use Rattle.fields.proofs.Laws.{by-place, whole-at, at-next, room, listed-end, listed-next, value-length, field-tag, value-byte, value-u16, next-is, whole-listed, whole-length}
@@ -119,27 +121,6 @@ header-places file x h w =
     let n = w .next in
     (w .start, omega arith)
 
--- its values are in range
-pub record HeadRanges (file : List ℕ) : Type 0 where
-  pub horizon : (1 ≤ siteOf file .horizon) × (siteOf file .horizon ≤ horizonLimit)
-  pub cells : (1 ≤ siteOf file .cells) × (siteOf file .cells ≤ cellLimit)
-  pub states : (1 ≤ stateCount file) × (stateCount file ≤ stateLimit)
-
-pub head-ranges : (file : List ℕ) → headGood (headOf file) ≡ true → HeadRanges file
-unfolding headGood siteOf stateCount
-head-ranges file g =
-    let f = headOf file in
-    let b₁ = eqb (f .tag) headTag && eqb (length (f .value)) headSize in
-    let b₂ = b₁ && within 1 horizonLimit (u16At (f .value) 0) in
-    let b₃ = b₂ && within 1 cellLimit (getD (f .value) 2 0) in
-    let g₃ = and-left b₃ (within 1 stateLimit (u16At (f .value) 3)) g in
-    let g₂ = and-left b₂ (within 1 cellLimit (getD (f .value) 2 0)) g₃ in
-    record {
-      horizon = within-range 1 horizonLimit (u16At (f .value) 0) (and-right b₁ (within 1 horizonLimit (u16At (f .value) 0)) g₂);
-      cells = within-range 1 cellLimit (getD (f .value) 2 0) (and-right b₂ (within 1 cellLimit (getD (f .value) 2 0)) g₃);
-      states = within-range 1 stateLimit (u16At (f .value) 3) (and-right b₃ (within 1 stateLimit (u16At (f .value) 3)) g);
-    }
-
 -- ---- a field's test, by what the reader says of it
 
 module _ (file : List ℕ) (at : ℕ) (h : Header) (w : Whole file at h) where
@@ -215,10 +196,6 @@ pub record StateHere (file : List ℕ) (at n : ℕ) : Type 0 where
   pub cell : stateOf (fieldAt file at) .cell ≡ getD file (at + 3) 0
   pub speed : stateOf (fieldAt file at) .speed ≡ getD file (at + 4) 0
 
-state-length : (f : Field) → isState f ≡ true → length (f .value) ≡ 2
-unfolding isState
-state-length f e = eqb-true (length (f .value)) 2 (and-right (eqb (f .tag) 2) (eqb (length (f .value)) 2) e)
-
 -- where n states are to come and the layout is good, the next is there
 state-here : (file : List ℕ) (at n : ℕ) → 0 < n → complete (fieldsAt file at) ≡ true → layoutGood n (listed (fieldsAt file at)) ≡ true → StateHere file at n
 unfolding stateOf
@@ -227,7 +204,7 @@ state-here file at n l w e =
     let p = first-inside isState file at f in
     let r = room file at _ w p refl in
     let i = sym (first-of isState _ _ _ (listed-next file at _ refl r)) ∙ f in
-    let z = sym (value-length file at _ refl r) ∙ state-length (fieldAt file at) i in
+    let z = sym (value-length file at _ refl r) ∙ state-parts (fieldAt file at) i .1 in
     let x = next-is file at _ (at + 5) w p refl (omega arith) in
     let a : at + 3 + 0 ≡ at + 3 = omega arith in
     let b : at + 3 + 1 ≡ at + 4 = omega arith in
@@ -274,7 +251,6 @@ state-at file (suc i) at (suc n) p w e =
 pub record AfterStates (file : List ℕ) (at n : ℕ) : Type 0 where
   pub inside : at + 5 * n ≤ length file
   pub whole : complete (fieldsAt file (at + 5 * n)) ≡ true
-  pub count : length (take n (listed (fieldsAt file at))) ≡ n
   pub list : drop n (listed (fieldsAt file at)) ≡ listed (fieldsAt file (at + 5 * n))
   pub motions : motionsLaid (listed (fieldsAt file (at + 5 * n))) ≡ true
 
@@ -284,7 +260,6 @@ after-states file zero at i w e =
     record {
       inside = omega arith;
       whole = rw a w;
-      count = refl;
       list = rw a;
       motions = rw a (sym (layout-none _ 0 refl) ∙ e);
     }
@@ -297,7 +272,6 @@ after-states file (suc n) at i w e =
     record {
       inside = let z = y .inside in omega arith;
       whole = rw a (y .whole);
-      count = rw (x .list) (ap suc (y .count));
       list = rw (x .list, a) (y .list);
       motions = rw a (y .motions);
     }
@@ -307,8 +281,9 @@ module _ (file : List ℕ) (laid : Laid file) where
   pub laid-head : HeadHere file
   laid-head = head-here file (laid .whole) (laid .head)
 
-  pub laid-ranges : HeadRanges file
-  laid-ranges = head-ranges file (laid .head)
+  pub states-few : stateCount file ≤ stateLimit
+  unfolding stateCount
+  states-few = head-good (headOf file) (laid .head) .states-range .1
 
   pub laid-layout : layoutGood (stateCount file) (listed (fieldsAt file 8)) ≡ true
   laid-layout = rw (laid-head .later) at (laid .layout)
@@ -325,7 +300,7 @@ module _ (file : List ℕ) (laid : Laid file) where
   laid-motions = rw (laid-head .later, laid-after .list)
 
   pub laid-count : length (siteOf file .states) ≡ stateCount file
-  laid-count = ap length laid-states ∙ simp length-map (laid-after .count)
+  laid-count = state-number file (laid .layout)
 
   pub laid-state : (i : ℕ) → i < length (siteOf file .states) → StateAt file 8 (stateCount file) i
   laid-state i p = let e = laid-count in state-at file i 8 (stateCount file) (omega arith) (laid-head .whole) laid-layout
@@ -333,7 +308,7 @@ module _ (file : List ℕ) (laid : Laid file) where
   pub laid-place : (i : ℕ) → i < length (siteOf file .states) → (i < 65536) × (statePlace i + 5 ≤ length file)
   laid-place i p =
       let e = laid-count in
-      let f = laid-ranges .states .1 in
+      let f = states-few in
       (omega arith, laid-state i p .inside)
 
   pub laid-cell : (i : ℕ) → i < length (siteOf file .states) → stateAt (siteOf file) i .cell ≡ getD file (statePlace i + 3) 0

@@ -3,20 +3,20 @@
 use Prim.Native.Nat.{ℕ, _+_, _*_, _≤_, _<_}
 use native.Mathlib.Omega.{arith}
 use mathlib.Core.Path.{_≡_, refl, sym, ap, _∙_}
-use mathlib.Core.Bool.{Bool, true, false, _&&_, true≢false}
+use mathlib.Core.Bool.{Bool, true, false, _&&_, true≢false, and-false}
 use mathlib.Core.List.{List, [], _∷_, map}
 use lib.Dec.{leb, eqb}
 use lib.ListN.{length, getD, drop}
-use borrow.Author.Tests.{lt-leb, le-leb, eqb-true}
+use borrow.Author.Tests.{lt-leb, le-leb}
 use Rattle.meaning.specs.Limits.{lightLimit, lightTag, lightHeadSize}
 use Rattle.meaning.specs.Basics.{every, u16At}
 use Rattle.meaning.specs.Fields.{Field, Fields, end, cut, next, noField, fields, complete, listed}
 use Rattle.meaning.specs.Light.{isLight, isLightHead, lightHeadOf, lightOf, inLayout, stepOf}
-use Rattle.meaning.proofs.BasicsLaws.{every-at, and-right}
+use Rattle.meaning.proofs.BasicsLaws.{every-at}
+use Rattle.meaning.proofs.LightLaws.{head-tests}
 use Rattle.fields.specs.declared.Header.{Header}
 use Rattle.fields.specs.Places.{fieldsAt, fieldAt, Whole}
 use Rattle.fields.proofs.Laws.{whole-at, whole-length, field-tag, value-byte, by-place, at-next, value-length, at-end}
-use Rattle.light.proofs.StepLaws.{never}
 use Rattle.light.specs.Steps.{headOf, stepsFrom, laidFrom}
 
 -- ---- when bytes are a light
@@ -35,11 +35,11 @@ light-lit s = rw (whole-at s)
 
 pub light-cut : (s : List ℕ) → fieldsAt s 0 ≡ cut → isLight s ≡ false
 unfolding lit every complete
-light-cut s e = light-lit s ∙ rw e (never (leb (length s) lightLimit))
+light-cut s e = light-lit s ∙ rw e (and-false (leb (length s) lightLimit))
 
 pub light-end : (s : List ℕ) → fieldsAt s 0 ≡ end → isLight s ≡ false
 unfolding lit every complete listed isLightHead
-light-end s e = light-lit s ∙ rw e (never (leb (length s) lightLimit))
+light-end s e = light-lit s ∙ rw e (and-false (leb (length s) lightLimit))
 
 -- complete, head, layout, and the same in the order that the code has
 reorder : (a b c d : Bool) → a && ((b && c) && (d && true)) ≡ b && c && (a && d)
@@ -75,10 +75,6 @@ pub record Accepted (s : List ℕ) : Type 0 where
   pub laid : laidFrom true s 16 ≡ true
   pub steps : stepsFrom s 16 ≡ lightOf s .steps
 
-head-size : (f : Field) → isLightHead f ≡ true → length (f .value) ≡ lightHeadSize
-unfolding isLightHead
-head-size f h = eqb-true _ _ (and-right (eqb (f .tag) lightTag) (eqb (length (f .value)) lightHeadSize) h)
-
 accepted-next : (s : List ℕ) (later : ℕ) → isLight s ≡ true → fieldsAt s 0 ≡ next (fieldAt s 0) (fieldsAt s later)
     → (complete (fieldsAt s later) ≡ true) × (isLightHead (fieldAt s 0) ≡ true) × (inLayout true (listed (fieldsAt s later)) ≡ true)
 unfolding lit complete listed
@@ -92,7 +88,7 @@ accepted-field s h r =
     let n = u16At s (0 + 1) in
     let e = at-next s 0 n refl r in
     let (c, head-good, layout) = accepted-next s (0 + 3 + n) h e in
-    let size : n ≡ lightHeadSize = sym (value-length s 0 n refl r) ∙ head-size (fieldAt s 0) head-good in
+    let size : n ≡ lightHeadSize = sym (value-length s 0 n refl r) ∙ head-tests (fieldAt s 0) head-good .1 in
     let place : 0 + 3 + n ≡ 16 = omega arith in
     let list : listed (fields s) ≡ fieldAt s 0 ∷ listed (fieldsAt s 16) =
     ap listed (sym (whole-at s) ∙ e) ∙ ap (λ (k : ℕ). fieldAt s 0 ∷ listed (fieldsAt s k)) place in

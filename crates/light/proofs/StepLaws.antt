@@ -1,9 +1,9 @@
 -- Laws of a light's steps by place: what the step at a place says of the fields from there on.
 -- Assumes nothing.
-use Prim.Native.Nat.{ℕ, zero, suc, _+_, _≤_, _<_}
+use Prim.Native.Nat.{ℕ, _+_, _≤_, _<_}
 use native.Mathlib.Omega.{arith}
 use mathlib.Core.Path.{_≡_, refl, sym, ap, _∙_}
-use mathlib.Core.Bool.{Bool, true, false, not, _&&_, _||_, false≢true}
+use mathlib.Core.Bool.{Bool, true, false, not, _&&_, _||_, false≢true, and-false}
 use mathlib.Core.List.{List, [], _∷_}
 use lib.Dec.{eqb}
 use lib.ListN.{length}
@@ -13,7 +13,8 @@ use Rattle.meaning.specs.Basics.{isZero, u16At}
 use Rattle.meaning.specs.Fields.{Field, Fields, end, cut, next, complete, listed}
 use Rattle.meaning.specs.Light.{isMove, isWait, inLayout, stepOf}
 use Rattle.meaning.specs.Plan as Plan
-use Rattle.meaning.proofs.BasicsLaws.{decide, not-zero, and-left, and-right}
+use Rattle.meaning.proofs.BasicsLaws.{decide, not-zero}
+use Rattle.meaning.proofs.LightLaws.{move-tests, wait-tests}
 use Rattle.fields.specs.declared.Header.{Header}
 use Rattle.fields.specs.Places.{fieldsAt, fieldAt, Whole}
 use Rattle.fields.proofs.Laws.{at-end, at-next, by-place, value-length, value-u16, field-tag, whole-length}
@@ -177,10 +178,6 @@ laid-next : (mayWait : Bool) (s : List ℕ) (at later : ℕ) → fieldsAt s at �
 unfolding laidFrom complete listed inLayout
 laid-next mayWait s at later e = rw e
 
-pub never : (b : Bool) → b && false ≡ false
-never true = refl
-never false = refl
-
 module _ (mayWait : Bool) (s : List ℕ) (at : ℕ) where
   pub move-laid : (n later : ℕ) → Move n later ≡ stepAt s at → laidFrom mayWait s at ≡ laidFrom true s later
   unfolding laidFrom
@@ -192,7 +189,7 @@ module _ (mayWait : Bool) (s : List ℕ) (at : ℕ) where
     where
       go : (a b : Bool) → b && (a && true && inLayout false (listed (fieldsAt s later))) ≡ a && (b && inLayout false (listed (fieldsAt s later)))
       go true b = refl
-      go false b = never b
+      go false b = and-false b
 
   pub end-laid : End ≡ stepAt s at → laidFrom mayWait s at ≡ true
   unfolding laidFrom complete listed inLayout
@@ -205,8 +202,8 @@ module _ (mayWait : Bool) (s : List ℕ) (at : ℕ) where
       (λ l p m k. laid-next mayWait s at l p ∙ rw (m, k) (go mayWait (complete (fieldsAt s l)) (inLayout false (listed (fieldsAt s l)))))
     where
       go : (a b c : Bool) → b && (a && false && c) ≡ false
-      go true b c = never b
-      go false b c = never b
+      go true b c = and-false b
+      go false b c = and-false b
 
 -- ---- walking the steps of a light, from place to place
 
@@ -216,22 +213,6 @@ pub record On (s : List ℕ) (at later : ℕ) (p : Plan.Step) : Type 0 where
   pub inside : later ≤ length s
   pub steps : stepsFrom s at ≡ p ∷ stepsFrom s later
   pub laid : laidFrom true s at ≡ true → laidFrom true s later ≡ true
-
-move-tag : (f : Field) → isMove f ≡ true → f .tag ≡ moveTag
-unfolding isMove
-move-tag f h = eqb-true _ _ (and-left (eqb (f .tag) moveTag) (eqb (length (f .value)) stepSize) h)
-
-wait-facts : (f : Field) → isWait f ≡ true → (f .tag ≡ waitTag) × (1 ≤ u16At (f .value) 0)
-unfolding isWait
-wait-facts f h =
-    let a = eqb (f .tag) waitTag in
-    let b = eqb (length (f .value)) stepSize in
-    let c = not (isZero (u16At (f .value) 0)) in
-    (eqb-true _ _ (and-left a b (and-left (a && b) c h)), go (u16At (f .value) 0) (and-right (a && b) c h))
-  where
-    go : (n : ℕ) → not (isZero n) ≡ true → 1 ≤ n
-    go zero h = absurd (false≢true h)
-    go (suc n) h = omega arith
 
 steps-next : (s : List ℕ) (at later : ℕ) → fieldsAt s at ≡ next (fieldAt s at) (fieldsAt s later)
     → stepsFrom s at ≡ stepOf (fieldAt s at) ∷ stepsFrom s later
@@ -248,7 +229,7 @@ laid-more s at h = go (complete (fieldsAt s at)) (listed (fieldsAt s at)) h
     go c (f ∷ fs) h =
         decide (isMove f)
         (λ e. rw e (rw e at h))
-        (λ e. absurd (false≢true (sym (never c) ∙ rw e at h)))
+        (λ e. absurd (false≢true (sym (and-false c) ∙ rw e at h)))
 
 module _ (s : List ℕ) (at : ℕ) where
   pub move-on : (n later : ℕ) → Move n later ≡ stepAt s at → On s at later (Plan.move n)
@@ -257,7 +238,7 @@ module _ (s : List ℕ) (at : ℕ) where
       record {
         ahead = w .ahead;
         inside = w .inside;
-        steps = steps-next s at later (w .fields) ∙ rw (move-tag _ m, w .number);
+        steps = steps-next s at later (w .fields) ∙ rw (move-tests _ m .0, w .number);
         laid = λ h. sym (move-laid true s at n later e) ∙ h;
       }
 
@@ -267,14 +248,9 @@ module _ (s : List ℕ) (at : ℕ) where
       record {
         ahead = w .ahead;
         inside = w .inside;
-        steps = steps-next s at later (w .fields) ∙ rw (wait-facts _ k .0, w .number);
+        steps = steps-next s at later (w .fields) ∙ rw (wait-tests _ k .0, w .number);
         laid = λ h. laid-more s later (sym (wait-laid true s at n later e) ∙ h);
       }
-
-  pub wait-span : (n later : ℕ) → Wait n later ≡ stepAt s at → 1 ≤ n
-  wait-span n later e =
-      let (w, m, k) = is-wait s at n later e in
-      omega (arith, w .number, wait-facts _ k .1)
 
   pub end-on : End ≡ stepAt s at → stepsFrom s at ≡ []
   unfolding stepsFrom listed

@@ -5,7 +5,7 @@ use native.Mathlib.Omega.{arith}
 use native.Mathlib.Nat.{add-zero, zero-add}
 use mathlib.Core.Path.{_≡_, refl, sym, ap, _∙_}
 use mathlib.Core.List.{List, [], _∷_, _++_, map, append-assoc, append-nil}
-use lib.ListN.{length, take, drop, length-append, length-drop, take-append-drop}
+use lib.ListN.{length, take, drop, length-append, take-append-drop}
 use lib.Seq.{length-take-le, take-append-le, take-take, drop-at}
 use Rattle.meaning.specs.Limits.{stepSize}
 use Rattle.meaning.specs.Basics.{put16}
@@ -22,10 +22,6 @@ step-bytes at tag n high low area h l = rw (h, l)
 -- nothing placed changes nothing
 pub placed-none : (at : ℕ) (area : List ℕ) → placed at [] area ≡ area
 placed-none at area = rw (add-zero at, append-nil (take at area), take-append-drop at area)
-
-pub length-placed : (at : ℕ) (new area : List ℕ) → at + length new ≤ length area → length (placed at new area) ≡ length area
-length-placed at new area h =
-    simp (length-append, length-take-le at area (omega arith), length-drop) (omega arith)
 
 -- bytes placed just before others
 pub placed-before : (at next : ℕ) (new later area : List ℕ) → next ≡ at + length new → next + length later ≤ length area

@@ -79,6 +79,14 @@ pub lowest-append : (xs ys : List Refusal) → Each Passed xs → lowest (xs ++ 
 lowest-append [] ys h = refl
 lowest-append (x ∷ xs) ys (e, h) = lowest-miss x (xs ++ ys) e ∙ lowest-append xs ys h
 
+-- or the first of them answers
+pub lowest-front : (xs ys : List Refusal) (n : ℕ) → lowest xs ≡ n → 1 ≤ n → lowest (xs ++ ys) ≡ n
+lowest-front [] ys n e some = absurd (let z : lowest [] ≡ 0 = lowest-clear [] tt in omega arith)
+lowest-front (x ∷ xs) ys n e some =
+    decide (x .applies)
+    (λ q. lowest-hit x (xs ++ ys) q ∙ sym (lowest-hit x xs q) ∙ e)
+    (λ q. lowest-miss x (xs ++ ys) q ∙ lowest-front xs ys n (sym (lowest-miss x xs q) ∙ e) some)
+
 pub each-append : (P : Refusal → Type 0) (xs ys : List Refusal) → Each P (xs ++ ys) → Each P xs × Each P ys
 each-append P [] ys h = (tt, h)
 each-append P (x ∷ xs) ys (e, h) = let (left, right) = each-append P xs ys h in ((e, left), right)

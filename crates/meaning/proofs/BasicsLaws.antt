@@ -1,10 +1,10 @@
 -- Laws of the definitions in Basics.
 -- Assumes nothing.
-use Prim.Native.Nat.{ℕ, zero, suc, _+_, _*_, _/_, _%_, _≤_, _<_}
+use Prim.Native.Nat.{ℕ, zero, suc, _+_, _*_, _-_, _/_, _%_, _≤_, _<_}
 use native.Mathlib.Nat.{not-suc-le-zero, le-of-suc-le-suc}
 use native.Mathlib.Omega.{arith}
 use mathlib.Core.Path.{_≡_, refl, sym, ap, ap₂, _∙_}
-use mathlib.Core.Bool.{Bool, true, false, cond, _&&_, false≢true, true≢false, and-true, and-assoc}
+use mathlib.Core.Bool.{Bool, true, false, cond, _&&_, false≢true, true≢false}
 use mathlib.Core.Option.{Option, none, some}
 use mathlib.Core.List.{List, [], _∷_, _++_}
 use lib.Dec.{leb, eqb}
@@ -42,6 +42,10 @@ every-cons b bs h k = simp (h, k)
 pub decide {ℓ} : {X : Type ℓ} (b : Bool) → (b ≡ true → X) → (b ≡ false → X) → X
 decide true yes-case no-case = yes-case refl
 decide false yes-case no-case = no-case refl
+
+-- one test fails: a conjunction of tests does not hold
+pub every-fails : (tests : List Bool) (i : ℕ) → getD tests i true ≡ false → every tests ≡ false
+every-fails tests i h = decide (every tests) (λ e. absurd (true≢false (sym (every-at tests e i) ∙ h))) (λ e. e)
 
 -- ---- when
 
@@ -81,7 +85,7 @@ all-at p [] d h i k = absurd (not-suc-le-zero k)
 all-at p (x ∷ xs) d h zero k = and-left (p x) (all p xs) h
 all-at p (x ∷ xs) d h (suc i) k = all-at p xs d (and-right (p x) (all p xs) h) i (le-of-suc-le-suc k)
 
--- ---- allFrom, at a place, and where one test fails
+-- ---- allFrom, at a place, and from its places
 
 pub allFrom-at : (p : ℕ → Bool) (i n j : ℕ) → allFrom p i n ≡ true → j < n → p (i + j) ≡ true
 allFrom-at p i zero j h lt = absurd (not-suc-le-zero lt)
@@ -91,11 +95,14 @@ allFrom-at p i (suc n) (suc j) h lt =
     let same : suc i + j ≡ i + suc j = omega arith in
     rw same at (allFrom-at p (suc i) n j (and-right (p i) (allFrom p (suc i) n) h) (le-of-suc-le-suc lt))
 
-pub allFrom-false : (p : ℕ → Bool) (i n j : ℕ) → j < n → p (i + j) ≡ false → allFrom p i n ≡ false
-allFrom-false p i n j lt e =
-    decide (allFrom p i n)
-    (λ h. absurd (true≢false (sym (allFrom-at p i n j h lt) ∙ e)))
-    (λ h. h)
+pub allFrom-in : (p : ℕ → Bool) (t n x : ℕ) → allFrom p t n ≡ true → t ≤ x → x < t + n → p x ≡ true
+allFrom-in p t n x h lo hi =
+    let same : t + (x - t) ≡ x = omega arith in
+    rw same at (allFrom-at p t n (x - t) h (omega arith))
+
+pub allFrom-true : (p : ℕ → Bool) (t n : ℕ) → ((x : ℕ) → t ≤ x → x < t + n → p x ≡ true) → allFrom p t n ≡ true
+allFrom-true p t zero h = refl
+allFrom-true p t (suc n) h = simp (h t (omega arith) (omega arith), allFrom-true p (suc t) n (λ x lo hi. h x (omega arith) (omega arith)))
 
 -- ---- tabulate, at a place
 
@@ -168,23 +175,6 @@ least-same p q i (suc n) h =
 
 -- ---- one more at the end: what a loop that counts up needs
 
-pub allFrom-snoc : (p : ℕ → Bool) (i n : ℕ) → allFrom p i (suc n) ≡ allFrom p i n && p (i + n)
-allFrom-snoc p i zero =
-    let same : i + 0 ≡ i = omega arith in
-    rw same (and-true (p i))
-allFrom-snoc p i (suc n) =
-    let same : suc i + n ≡ i + suc n = omega arith in
-    ap (λ (b : Bool). p i && b) (allFrom-snoc p (suc i) n)
-    ∙ ap (λ (j : ℕ). p i && (allFrom p (suc i) n && p j)) same
-    ∙ sym (and-assoc (p i) (allFrom p (suc i) n) (p (i + suc n)))
-
-pub tabulate-snoc : {A : Type 0} (g : ℕ → A) (i n : ℕ) → tabulate g i (suc n) ≡ tabulate g i n ++ (g (i + n) ∷ [])
-tabulate-snoc g i zero = let same : i + 0 ≡ i = omega arith in rw same
-tabulate-snoc {A} g i (suc n) =
-    let same : suc i + n ≡ i + suc n = omega arith in
-    ap {B = List A} (λ xs. g i ∷ xs) (tabulate-snoc g (suc i) n)
-    ∙ ap {B = List A} (λ j. g i ∷ (tabulate g (suc i) n ++ (g j ∷ []))) same
-
 -- a search that has found nothing yet, at its next number
 pub least-snoc : (p : ℕ → Bool) (i n : ℕ) → least p i n ≡ none → least p i (suc n) ≡ cond (p (i + n)) (some (i + n)) none
 least-snoc p i zero h = let same : i + 0 ≡ i = omega arith in rw same
@@ -235,11 +225,7 @@ pub any-case : {A X : Type 0} (p : A → Bool) (x : A) (xs : List A) → any p (
 unfolding any
 any-case p x xs h f g = decide (p x) f (λ e. g e (simp e at h))
 
--- none of them passes
-pub any-cons-false : {A : Type 0} (p : A → Bool) (x : A) (xs : List A) → p x ≡ false → any p xs ≡ false → any p (x ∷ xs) ≡ false
-unfolding any
-any-cons-false p x xs h k = simp (h, k)
-
+-- the first does not pass
 pub any-skip : {A : Type 0} (p : A → Bool) (x : A) (xs : List A) → p x ≡ false → any p (x ∷ xs) ≡ any p xs
 unfolding any
 any-skip p x xs h = simp h

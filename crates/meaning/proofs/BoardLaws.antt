@@ -1,7 +1,7 @@
 -- Laws of the board's bytes: where a pair's byte is, and what marking, clearing and a new edition do to it.
 -- Assumes nothing.
 use Prim.Native.Nat.{ℕ, suc, _+_, _*_, _-_, _/_, _%_, _≤_, _<_}
-use native.Mathlib.Nat.{suc-mul, mul-le-mul-right, div-lt-iff-lt-mul, div-add-mod', mod-lt}
+use native.Mathlib.Nat.{div-lt-iff-lt-mul, div-add-mod', mod-lt}
 use native.Mathlib.Omega.{arith}
 use mathlib.Core.Path.{_≡_, refl, sym, ap, ap₂, _∙_, subst}
 use mathlib.Core.Bool.{Bool, true, false, cond, true≢false}
@@ -10,7 +10,8 @@ use lib.Dec.{leb, ltb, eqb}
 use borrow.Author.Tests.{leb-true, ltb-true, ltb-false, eqb-true, eq-eqb}
 use lib.ListN.{length, getD, take, drop, set, length-append, length-drop, length-set, length-map, List·getD-map, take-append-drop}
 use lib.Seq.{getD-drop, getD-set-same, getD-set-other, getD-append-add, length-take-le}
-use Rattle.meaning.specs.Limits.{header}
+use lib.Arith.{digits-lt}
+use Rattle.meaning.specs.Limits.{header, lastEdition}
 use Rattle.meaning.specs.Basics.{every, any, all}
 use Rattle.meaning.specs.Site.{Site}
 use Rattle.meaning.specs.Board.{Free, boardLength, place, byteAt, edition, Pair, allFree, mark, clear, withEdition}
@@ -24,20 +25,27 @@ pub same-edition : (b d : List ℕ) → ((i : ℕ) → i < 4 → getD b i 0 ≡ 
 same-edition b d h =
     simp (h 0 (omega arith), h 1 (omega arith), h 2 (omega arith), h 3 (omega arith))
 
+-- an edition made of bytes has 32 bits
+pub edition-small : (board : List ℕ) → ((i : ℕ) → getD board i 0 < 256) → edition board ≤ lastEdition
+edition-small board bytes =
+    let b0 = bytes 0 in
+    let b1 = bytes 1 in
+    let b2 = bytes 2 in
+    let b3 = bytes 3 in
+    omega arith
+
 -- ---- where a pair's byte is
 
 module _ (site : Site) where
   pub place-in : (c t : ℕ) → c < site .cells → t ≤ site .horizon → place site c t < boardLength site
   place-in c t hc ht =
-      let rows : suc c * (site .horizon + 1) ≤ site .cells * (site .horizon + 1) = mul-le-mul-right (site .horizon + 1) hc in
-      let one-more : suc c * (site .horizon + 1) ≡ c * (site .horizon + 1) + (site .horizon + 1) = suc-mul c (site .horizon + 1) in
+      let below : c * (site .horizon + 1) + t < site .cells * (site .horizon + 1) = digits-lt hc (omega arith) in
       omega arith
 
   -- a row ends before the next begins
   place-below : (c t d u : ℕ) → t ≤ site .horizon → c < d → place site c t < place site d u
   place-below c t d u ht h =
-      let rows : suc c * (site .horizon + 1) ≤ d * (site .horizon + 1) = mul-le-mul-right (site .horizon + 1) h in
-      let one-more : suc c * (site .horizon + 1) ≡ c * (site .horizon + 1) + (site .horizon + 1) = suc-mul c (site .horizon + 1) in
+      let below : c * (site .horizon + 1) + t < d * (site .horizon + 1) = digits-lt h (omega arith) in
       omega arith
 
   place-cell : (c t d u : ℕ) → t ≤ site .horizon → u ≤ site .horizon → place site c t ≡ place site d u → c ≡ d

@@ -7,13 +7,13 @@ use mathlib.Core.Bool.{Bool, true, false, cond, not, true≢false}
 use mathlib.Core.Option.{Option, none, some}
 use mathlib.Core.List.{List, [], _∷_, _++_}
 use lib.Dec.{leb, eqb}
-use borrow.Author.Tests.{leb-true, eqb-true, eqb-false, ne-eqb, not-false}
+use borrow.Author.Tests.{leb-true, eqb-true, ne-eqb, not-false, ltb-true, eq-eqb}
 use lib.ListN.{length, getD, take, drop, length-append, length-drop, List·getD-append}
 use lib.Seq.{getD-append-add, getD-drop, take-append-seam}
 use Rattle.meaning.specs.Basics.{every, Each, isNone}
-use Rattle.meaning.specs.Answers.{Refusal, _if_, lowest, Clears}
-use Rattle.meaning.specs.Site.{Site, standing, siteOf, siteRefusals}
-use Rattle.meaning.specs.Board.{free, isTug, boardLength}
+use Rattle.meaning.specs.Answers.{Refusal, _if_, lowest, Clears, accepted}
+use Rattle.meaning.specs.Site.{Site, standing, siteOf, siteRefusals, readSite}
+use Rattle.meaning.specs.Board.{isTug, boardLength}
 use Rattle.meaning.specs.Plan.{Node}
 use Rattle.meaning.specs.Reach.{Route, findRoute}
 use Rattle.meaning.specs.Light.{encode}
@@ -22,6 +22,7 @@ use Rattle.meaning.specs.PlainBoard.{Seen, seenBy}
 use Rattle.meaning.specs.Demands.{Written, lightOut}
 use Rattle.meaning.proofs.BasicsLaws.{decide, every-at}
 use Rattle.meaning.proofs.AnswersLaws.{Passed, lowest-hit, lowest-miss, lowest-clear, lowest-none, rise-before, lowest-append, each-append, all-rise}
+use Rattle.meaning.proofs.SiteLaws.{site-read}
 
 -- ---- areas
 
@@ -76,10 +77,6 @@ refused-18 site l = refl
 
 -- ---- checks that are passed
 
--- an accepted call passed all its checks
-pub accepted-passed : (file : List ℕ) (l : Lent) (q : PublicCall) → meant file l q .number ≡ 0 → Each Passed (refusals file l q)
-accepted-passed file l q e = lowest-none (refusals file l q) (all-rise file l q) (sym (meant-number file l q) ∙ e)
-
 -- the three parts of a call's list
 pub record Parts (file : List ℕ) (l : Lent) (q : PublicCall) (P : Refusal → Type 0) : Type 0 where
   pub of-site : Each P (siteRefusals file)
@@ -92,16 +89,25 @@ parts P file l q h =
     let (left, right) = each-append P (siteRefusals file) (7 if not (eqb (length (l .board)) (boardLength (siteOf file))) ∷ laterRefusals (siteOf file) l q) h in
     record { of-site = left; of-board = right .0; later = right .1 }
 
+module _ (file : List ℕ) (l : Lent) (q : PublicCall) where
+  -- a call that no number refuses passed all its checks
+  pub none-parts : lowest (refusals file l q) ≡ 0 → Parts file l q Passed
+  none-parts e = parts Passed file l q (lowest-none (refusals file l q) (all-rise file l q) e)
+
+  pub accepted-parts : meant file l q .number ≡ 0 → Parts file l q Passed
+  accepted-parts e = none-parts (sym (meant-number file l q) ∙ e)
+
+  -- its file is read as a site
+  pub parts-read : Parts file l q Passed → readSite file ≡ accepted (siteOf file)
+  parts-read p = site-read file (lowest-clear (siteRefusals file) (p .of-site))
+
 -- past 1 to 7 the later checks give the number
 pub later-number : (file : List ℕ) (l : Lent) (q : PublicCall) → Each Passed (siteRefusals file) → length (l .board) ≡ boardLength (siteOf file)
     → lowest (refusals file l q) ≡ lowest (laterRefusals (siteOf file) l q)
 unfolding refusals
 later-number file l q ok size =
     lowest-append (siteRefusals file) _ ok
-    ∙ lowest-miss _ (laterRefusals (siteOf file) l q) (ap not (eq-true (length (l .board)) (boardLength (siteOf file)) size))
-  where
-    eq-true : (m n : ℕ) → m ≡ n → eqb m n ≡ true
-    eq-true m n e = decide (eqb m n) (λ q. q) (λ q. absurd (eqb-false m n q e))
+    ∙ lowest-miss _ (laterRefusals (siteOf file) l q) (ap not (eq-eqb (length (l .board)) (boardLength (siteOf file)) size))
 
 pub board-sized : (file : List ℕ) (l : Lent) → Passed (7 if not (eqb (length (l .board)) (boardLength (siteOf file)))) → length (l .board) ≡ boardLength (siteOf file)
 board-sized file l h = eqb-true _ _ (not-false _ h)
@@ -147,6 +153,20 @@ some-route : (o : Option Route) → isNone o ≡ false → (r : Route) × (o ≡
 some-route none e = absurd (true≢false e)
 some-route (some r) e = (r, refl)
 
+-- what route names is of the site
+module _ (site : Site) (a : Node) (goal : ℕ) (h : startNamed site a goal ≡ true) where
+  pub named-start : a .state < length (site .states)
+  unfolding startNamed
+  named-start = ltb-true _ _ (every-at _ h 0)
+
+  pub named-tick : a .tick ≤ site .horizon
+  unfolding startNamed
+  named-tick = leb-true _ _ (every-at _ h 1)
+
+  pub named-goal : goal < length (site .states)
+  unfolding startNamed
+  named-goal = ltb-true _ _ (every-at _ h 2)
+
 pub record PassesTo14 (site : Site) (l : Lent) (tug : ℕ) (a : Node) (goal : ℕ) : Type 0 where
   pub is-tug : isTug tug ≡ true
   pub named : startNamed site a goal ≡ true
@@ -187,7 +207,7 @@ module _ (file : List ℕ) (l : Lent) (tug : ℕ) (a : Node) (goal : ℕ) where
       (rise-before 0 (refusals file l call) (all-rise file l call) 18 (sym (meant-number file l call) ∙ e)) .later)
 
   pub accepted-to-14 : meant file l call .number ≡ 0 → PassesTo14 site l tug a goal
-  accepted-to-14 e = facts Passed (λ r le p. p) (parts Passed file l call (accepted-passed file l call e) .later)
+  accepted-to-14 e = facts Passed (λ r le p. p) (accepted-parts file l call e .later)
 
   -- then the search answers
   search-number : Clears 14 (refusals file l call) → lowest (refusals file l call) ≡ lowest (18 if isNone (findRoute site (v .free) a goal) ∷ [])
@@ -213,5 +233,5 @@ module _ (file : List ℕ) (l : Lent) (tug : ℕ) (a : Node) (goal : ℕ) where
   pub granted-found : meant file l call .number ≡ 0 → (r : Route) × (findRoute site (v .free) a goal ≡ some r)
   unfolding routeRefusals
   granted-found e =
-      let (h9, (h10, (h11, (h12, (h14, (h18, rest)))))) = parts Passed file l call (accepted-passed file l call e) .later in
+      let (h9, (h10, (h11, (h12, (h14, (h18, rest)))))) = accepted-parts file l call e .later in
       some-route (findRoute site (v .free) a goal) h18

@@ -12,9 +12,8 @@ use Rattle.meaning.specs.Answers.{Refusal, _if_, lowest}
 use Rattle.meaning.specs.Site.{siteOf, siteRefusals}
 use Rattle.meaning.specs.Board.{boardLength}
 use Rattle.meaning.specs.Calls.{PublicCall, opening, Lent, laterRefusals, refusals}
-use Rattle.meaning.proofs.BasicsLaws.{decide}
-use Rattle.meaning.proofs.AnswersLaws.{Passed, lowest-hit, lowest-miss, lowest-clear, lowest-none, lowest-append, all-rise, site-rise}
-use Rattle.meaning.proofs.CallLaws.{later-number, board-sized, parts}
+use Rattle.meaning.proofs.AnswersLaws.{lowest-hit, lowest-miss, lowest-clear, lowest-none, lowest-append, site-rise, lowest-front}
+use Rattle.meaning.proofs.CallLaws.{later-number, board-sized, none-parts}
 
 -- ---- one check
 
@@ -30,28 +29,13 @@ miss m n b rs e h = h ∙ sym (lowest-miss (n if b) rs e)
 pub none-left : 0 ≡ lowest []
 none-left = sym (lowest-clear [] tt)
 
--- a test that a function made, and the refusal that it is negated in
-pub told-not : {r t : Bool} → r ≡ t → r ≡ false → not t ≡ true
-told-not {r} {t} e h = ap not (sym e ∙ h)
-
-pub told-held : {r t : Bool} → r ≡ t → r ≡ true → not t ≡ false
-told-held {r} {t} e h = ap not (sym e ∙ h)
-
 -- ---- numbers 1 to 7, and those after them
-
--- one list, and more behind it
-lowest-front : (xs ys : List Refusal) (n : ℕ) → lowest xs ≡ suc n → lowest (xs ++ ys) ≡ suc n
-lowest-front [] ys n e = absurd (let z : lowest [] ≡ 0 = lowest-clear [] tt in omega arith)
-lowest-front (x ∷ xs) ys n e =
-    decide (x .applies)
-    (λ q. lowest-hit x (xs ++ ys) q ∙ sym (lowest-hit x xs q) ∙ e)
-    (λ q. lowest-miss x (xs ++ ys) q ∙ lowest-front xs ys n (sym (lowest-miss x xs q) ∙ e))
 
 module _ (file : List ℕ) (l : Lent) where
   -- a site that is refused is refused with its own number
   pub site-refused : (q : PublicCall) (n : ℕ) → lowest (siteRefusals file) ≡ suc n → lowest (refusals file l q) ≡ suc n
   unfolding refusals
-  site-refused q n e = lowest-front (siteRefusals file) _ n e
+  site-refused q n e = lowest-front (siteRefusals file) _ (suc n) e (omega arith)
 
   pub size-refused : lowest (siteRefusals file) ≡ 0 → (length (l .board) ≡ boardLength (siteOf file) → ⊥) → lowest (refusals file l opening) ≡ 7
   unfolding refusals
@@ -67,9 +51,9 @@ module _ (file : List ℕ) (l : Lent) where
   unfolding refusals
   as-open q n e =
       ap lowest (sym (append-assoc (siteRefusals file) (7 if not (eqb (length (l .board)) (boardLength (siteOf file))) ∷ []) (laterRefusals (siteOf file) l q)))
-      ∙ lowest-front (siteRefusals file ++ (7 if not (eqb (length (l .board)) (boardLength (siteOf file))) ∷ [])) (laterRefusals (siteOf file) l q) n e
+      ∙ lowest-front (siteRefusals file ++ (7 if not (eqb (length (l .board)) (boardLength (siteOf file))) ∷ [])) (laterRefusals (siteOf file) l q) (suc n) e (omega arith)
 
   pub past-open : (q : PublicCall) → lowest (refusals file l opening) ≡ 0 → lowest (refusals file l q) ≡ lowest (laterRefusals (siteOf file) l q)
   past-open q e =
-      let passed : _ = parts Passed file l opening (lowest-none (refusals file l opening) (all-rise file l opening) e) in
+      let passed : _ = none-parts file l opening e in
       later-number file l q (passed .of-site) (board-sized file l (passed .of-board))

@@ -8,7 +8,7 @@ use mathlib.Core.Option.{Option, some}
 use mathlib.Core.List.{List, [], _∷_, _++_}
 use lib.Dec.{leb, eqb}
 use borrow.Author.Tests.{leb-true, eqb-true, eqb-false, eq-eqb, ne-eqb, not-false}
-use lib.ListN.{length, getD, take, drop, replicate, length-replicate}
+use lib.ListN.{length, take, drop, replicate, length-replicate}
 use lib.Seq.{take-append-seam}
 use Rattle.meaning.specs.Limits.{lastEdition}
 use Rattle.meaning.specs.Basics.{all, Bytes}
@@ -26,15 +26,15 @@ use Rattle.meaning.specs.SafeIntervals.{AllSafeIntervals}
 use Rattle.meaning.specs.WellFormed.{WellFormed}
 use Rattle.meaning.specs.Demands.{Desk, Exact, Written, Rewritten, lightOut, OnlyBoard, Demand1, Demand2}
 use Rattle.meaning.proofs.BasicsLaws.{decide, every-at, every-nil, every-cons, options}
-use Rattle.meaning.proofs.AnswersLaws.{Passed, lowest-hit, lowest-miss, lowest-clear, lowest-append, lowest-most}
+use Rattle.meaning.proofs.AnswersLaws.{lowest-hit, lowest-miss, lowest-clear, lowest-append, lowest-most}
 use Rattle.meaning.proofs.FieldsLaws.{byte-at}
 use Rattle.meaning.proofs.LightLaws.{decode-some, light-decode}
 use Rattle.meaning.proofs.PlanLaws.{plan-valid, valid-plan, pairs-held, held-pairs, has-run-to, in-run-to}
 use Rattle.meaning.proofs.IntervalLaws.{intervals-right}
-use Rattle.meaning.proofs.SiteLaws.{site-read, read-well}
+use Rattle.meaning.proofs.SiteLaws.{read-well}
 use Rattle.meaning.proofs.TraceLaws.{search-right}
-use Rattle.meaning.proofs.BoardLaws.{edition-new, length-edition, byte-edition, InSite, in-site, length-mark, byte-mark, length-clear, byte-clear}
-use Rattle.meaning.proofs.CallLaws.{written, meant-number, meant-by, meant-accepted, refused-same, refused-18, accepted-passed, Parts, parts, board-sized, PassesTo14, refused-to-14, accepted-to-14, granted-found}
+use Rattle.meaning.proofs.BoardLaws.{edition-new, length-edition, byte-edition, InSite, in-site, length-mark, byte-mark, length-clear, byte-clear, edition-small}
+use Rattle.meaning.proofs.CallLaws.{written, meant-number, meant-by, meant-accepted, refused-same, refused-18, accepted-parts, board-sized, PassesTo14, refused-to-14, accepted-to-14, granted-found, parts-read}
 use Rattle.meaning.proofs.ListLaws.{light-free}
 
 -- ---- refused calls
@@ -73,15 +73,6 @@ only-routes {X} file l q e on-route = by-call q refl
 
 -- ---- what an accepted call writes
 
--- a byte's edition has 32 bits
-edition-small : (board : List ℕ) → Bytes board → edition board ≤ lastEdition
-edition-small board bytes =
-    let b0 : getD board 0 0 < 256 = byte-at board bytes 0 in
-    let b1 : getD board 1 0 < 256 = byte-at board bytes 1 in
-    let b2 : getD board 2 0 < 256 = byte-at board bytes 2 in
-    let b3 : getD board 3 0 < 256 = byte-at board bytes 3 in
-    omega arith
-
 -- a board whose bytes are changed at some pairs, with the next edition
 module _ (site : Site) (board new : List ℕ) (Pairs : ℕ → ℕ → Type 0) (h : ℕ) (bytes : Bytes board)
     (early : eqb (edition board) lastEdition ≡ false) (size : length board ≡ boardLength site) (same-size : length new ≡ length board) where
@@ -90,7 +81,7 @@ module _ (site : Site) (board new : List ℕ) (Pairs : ℕ → ℕ → Type 0) (
       → Rewritten site board (nextEdition board new) Pairs h
   unfolding nextEdition
   rewritten there elsewhere =
-      let small : edition board ≤ lastEdition = edition-small board bytes in
+      let small : edition board ≤ lastEdition = edition-small board (byte-at board bytes) in
       let other : edition board ≡ lastEdition → ⊥ = eqb-false _ _ early in
       record {
         same-length = length-edition site (edition board + 1) new (same-size ∙ size) ∙ same-size;
@@ -120,11 +111,8 @@ module _ (file : List ℕ) (l : Lent) where
   abbrev site : Site
   site = siteOf file
 
-  passed : (q : PublicCall) → meant file l q .number ≡ 0 → Parts file l q Passed
-  passed q z = parts Passed file l q (accepted-passed file l q z)
-
   size : (q : PublicCall) → meant file l q .number ≡ 0 → length (l .board) ≡ boardLength site
-  size q z = board-sized file l (passed q z .of-board)
+  size q z = board-sized file l (accepted-parts file l q z .of-board)
 
   opened : meant file l opening .number ≡ 0
       → OnlyBoard l (meant file l opening) × (meant file l opening .lent .board ≡ replicate (boardLength site) 0)
@@ -140,7 +128,7 @@ module _ (file : List ℕ) (l : Lent) where
   closed h cell first last bytes z =
       let q : PublicCall = listed (close h cell first last) in
       let is : meant file l q ≡ acceptedDone site l q = meant-accepted file l q z in
-      let (h9, (h10, (h12, (h15, (h17, rest))))) = passed q z .later in
+      let (h9, (h10, (h12, (h15, (h17, rest))))) = accepted-parts file l q z .later in
       rw is (
         (refl, refl, refl),
         marked site (l .board) h (runTo cell first last) (λ c t. (c ≡ cell) × (first ≤ t) × (t ≤ last)) bytes h15 (size q z) (not-false _ h17)
@@ -155,7 +143,7 @@ module _ (file : List ℕ) (l : Lent) where
   withdrawn h bytes z =
       let q : PublicCall = listed (withdraw h) in
       let is : meant file l q ≡ acceptedDone site l q = meant-accepted file l q z in
-      let (h9, (h13, (h15, rest))) = passed q z .later in
+      let (h9, (h13, (h15, rest))) = accepted-parts file l q z .later in
       rw is (
         (refl, refl, refl),
         rewritten site (l .board) (clear h (l .board)) (λ c t. byteAt site (l .board) c t ≡ h) 0 bytes h15 (size q z) (length-clear site h (l .board))
@@ -176,7 +164,7 @@ module _ (file : List ℕ) (l : Lent) where
       let q : PublicCall = listed (post light) in
       let is : meant file l q ≡ acceptedDone site l q = meant-accepted file l q z in
       let x : Light = lightOf light in
-      let (h8, (h9, (h10, (h11, (h12, (h15, (h16, (h17, rest)))))))) = passed q z .later in
+      let (h8, (h9, (h10, (h11, (h12, (h15, (h16, (h17, rest)))))))) = accepted-parts file l q z .later in
       rw is (
         x,
         light-decode light (not-false _ h8),
@@ -233,7 +221,7 @@ module _ (file : List ℕ) (l : Lent) where
       let q : PublicCall = listed (route tug a goal) in
       let is : meant file l q ≡ acceptedDone site l q = meant-accepted file l q z in
       let ready : PassesTo14 site l tug a goal = accepted-to-14 file l tug a goal z in
-      let well : WellFormed site = read-well file site (site-read file (lowest-clear (siteRefusals file) (passed q z .of-site))) in
+      let well : WellFormed site = read-well file site (parts-read file l q (accepted-parts file l q z)) in
       let (r, e) = granted-found file l tug a goal z in
       let x : Light = grantedLight site (bytesView site (l .board)) tug a goal in
       let steps : x .steps ≡ r .steps = ap (λ (o : Option Route). routeFound o .steps) e in
@@ -329,7 +317,7 @@ reported : (file : List ℕ) (l : Lent) (cell : ℕ) → meant file l (interval 
 unfolding acceptedDone intervalRefusals
 reported file l cell z =
     let is : meant file l (interval cell) ≡ acceptedDone (siteOf file) l (interval cell) = meant-accepted file l (interval cell) z in
-    let (h10, (h14, rest)) = parts Passed file l (interval cell) (accepted-passed file l (interval cell) z) .later in
+    let (h10, (h14, rest)) = accepted-parts file l (interval cell) z .later in
     let room : numbersRoom (siteOf file) ≤ length (l .out) = leb-true _ _ (not-false _ h14) in
     let p : ℕ → Bool = free (siteOf file) (l .board) cell in
     let fits : length (numbersOf (intervals p (siteOf file .horizon))) ≤ numbersRoom (siteOf file) = intervals-right .fit p (siteOf file) in

@@ -7,13 +7,14 @@ use mathlib.Core.List.{List}
 use lib.Dec.{ltb}
 use borrow.Author.Tests.{ltb-true, ltb-false}
 use Rattle.meaning.specs.Basics.{Some, here, there}
-use Rattle.meaning.specs.Site.{Site, Sweep, noMotion, cellOf, motionAt}
+use Rattle.meaning.specs.Site.{Site, Sweep, cellOf, motionAt}
 use Rattle.meaning.specs.Board.{Free}
 use Rattle.meaning.specs.Plan.{Step, Node}
 use Rattle.meaning.specs.ValidPlans.{Leads, ends, waits, moves, Valid, Along, by-wait, by-motion, after-wait, after-motion, Holds, on-the-way}
-use Rattle.meaning.specs.WellFormed.{Uses, GoodMotion, WellFormed}
+use Rattle.meaning.specs.WellFormed.{Uses, WellFormed}
 use Rattle.meaning.specs.Laws.{HandoverRight}
-use Rattle.meaning.proofs.BasicsLaws.{decide, each-at}
+use Rattle.meaning.proofs.BasicsLaws.{decide}
+use Rattle.meaning.proofs.MotionLaws.{good-at}
 
 -- a cell that a sweep uses at an offset, as a cell in use at a tick
 used-at : (start c j t : ℕ) → start + j ≡ t → {ws : List Sweep} → Uses ws c j
@@ -36,8 +37,7 @@ module _ (site : Site) (good : WellFormed site) (f : Free) where
       (λ q.
       let lt : t < a .tick + motionAt site m .span = ltb-true _ _ q in
       let j : ℕ = t - a .tick in
-      let motion-good : GoodMotion site (motionAt site m) = each-at (GoodMotion site) (site .motions) noMotion (good .motions-good) m known in
-      let (c, now, next) = motion-good .handed-over j (omega arith) in
+      let (c, now, next) = good-at site good m known .handed-over j (omega arith) in
       (c, by-motion (used-at (a .tick) c j t (omega arith) now), by-motion (used-at (a .tick) c (suc j) (suc t) (omega arith) next)))
       (λ q. let (c, now, next) = leads-handed l t (ltb-false _ _ q) hi in (c, after-motion now, after-motion next))
 
@@ -50,6 +50,6 @@ plan-handed site good f a ps b v t lo hi =
 pub handover-right : HandoverRight
 handover-right = record {
   handed = plan-handed;
-  no-swap = λ site good f g a d ps qs b e v w apart t lo hi enters.
+  no-swap = λ site good f a d ps qs b v apart t lo hi enters.
       let (c, now, next) = plan-handed site good f a ps b v t lo hi in apart c t now (enters c next);
 }

@@ -98,14 +98,14 @@ light-decode bytes h = rw h
 
 -- ---- the tests of a field, as facts
 
-head-tests : (f : Field) → isLightHead f ≡ true → (f .tag ≡ lightTag) × (length (f .value) ≡ lightHeadSize)
+pub head-tests : (f : Field) → isLightHead f ≡ true → (f .tag ≡ lightTag) × (length (f .value) ≡ lightHeadSize)
 unfolding isLightHead
 head-tests f h = (
   eqb-true _ _ (and-left (eqb (f .tag) lightTag) (eqb (length (f .value)) lightHeadSize) h),
   eqb-true _ _ (and-right (eqb (f .tag) lightTag) (eqb (length (f .value)) lightHeadSize) h),
 )
 
-move-tests : (f : Field) → isMove f ≡ true → (f .tag ≡ moveTag) × (length (f .value) ≡ stepSize)
+pub move-tests : (f : Field) → isMove f ≡ true → (f .tag ≡ moveTag) × (length (f .value) ≡ stepSize)
 unfolding isMove
 move-tests f h = (
   eqb-true _ _ (and-left (eqb (f .tag) moveTag) (eqb (length (f .value)) stepSize) h),
@@ -116,7 +116,7 @@ not-isZero : (n : ℕ) → not (isZero n) ≡ true → 1 ≤ n
 not-isZero zero h = absurd (false≢true h)
 not-isZero (suc n) h = omega arith
 
-wait-tests : (f : Field) → isWait f ≡ true → (f .tag ≡ waitTag) × (length (f .value) ≡ stepSize) × (1 ≤ u16At (f .value) 0)
+pub wait-tests : (f : Field) → isWait f ≡ true → (f .tag ≡ waitTag) × (length (f .value) ≡ stepSize) × (1 ≤ u16At (f .value) 0)
 unfolding isWait
 wait-tests f h =
     let a = eqb (f .tag) waitTag in

@@ -12,7 +12,7 @@ use Rattle.meaning.specs.Limits.{lastEdition}
 use Rattle.meaning.specs.Basics.{Each}
 use Rattle.meaning.specs.Answers.{lowest}
 use Rattle.meaning.specs.Site.{Site, cellOf, siteOf, siteRefusals}
-use Rattle.meaning.specs.Board.{Free, free, isTug, isClosure, isHolder, boardLength, edition, runTo, allFree}
+use Rattle.meaning.specs.Board.{Free, isTug, isClosure, isHolder, boardLength, edition, runTo, allFree}
 use Rattle.meaning.specs.Plan.{planEnd, walkPairs, planPairs}
 use Rattle.meaning.specs.Light.{Light, startOf, lightOf}
 use Rattle.meaning.specs.Calls.{Call, route, audit, post, close, withdraw, opening, listed, View, bytesView, runNamed, isAt, lightValid, lightRefusals, closeRefusals, withdrawRefusals, callRefusals, Lent, roomOf, refusals, changed, Done, acceptedDone, doneBy, meant}
@@ -25,7 +25,7 @@ use Rattle.meaning.proofs.HolderLaws.{holders-right}
 use Rattle.meaning.proofs.PlanLaws.{plan-free}
 use Rattle.meaning.proofs.SiteLaws.{read-site, read-well}
 use Rattle.meaning.proofs.PlainLaws.{Agree, same-edition, same-view, board-bytes, opened-agrees, entered, released, no-two-in, known-in}
-use Rattle.meaning.proofs.CallLaws.{meant-by, meant-accepted, later-number, board-sized, accepted-passed, parts, seenOf, done-seen, boardBy, done-board}
+use Rattle.meaning.proofs.CallLaws.{meant-by, meant-accepted, later-number, board-sized, accepted-parts, seenOf, done-seen, boardBy, done-board}
 use Rattle.meaning.proofs.RouteLaws.{route-right}
 
 -- ---- holders
@@ -178,7 +178,7 @@ open-agrees : (file : List ℕ) (l : Lent) → meant file l opening .number ≡ 
 unfolding acceptedDone
 open-agrees file l z =
     let size : length (l .board) ≡ boardLength (siteOf file) =
-    board-sized file l (parts Passed file l opening (accepted-passed file l opening z) .of-board) in
+    board-sized file l (accepted-parts file l opening z .of-board) in
     subst (λ (d : Done). Agree (siteOf file) (d .lent .board) emptyPlain) (sym (meant-accepted file l opening z))
     (opened-agrees (siteOf file) (length (l .board)) size)
 

@@ -1,4 +1,4 @@
--- The rules on one motion: the test of refusal 6 holds exactly at a motion that keeps them.
+-- The rules on one motion: the test of refusal 6 holds exactly at a motion that keeps them; and a well-formed site by number.
 -- Assumes nothing.
 use Prim.Native.Nat.{ℕ, suc, _+_, _≤_, _<_}
 use native.Mathlib.Numerals.{add-one}
@@ -9,9 +9,9 @@ use lib.ListN.{length, getD}
 use lib.Dec.{leb, ltb, eqb}
 use borrow.Author.Tests.{leb-true, le-leb, ltb-true, lt-ltb, eqb-true, eqb-false, eq-eqb, ne-eqb, not-true}
 use Rattle.meaning.specs.Basics.{all, allBelow}
-use Rattle.meaning.specs.Site.{Site, Sweep, Motion, cellOf, covers, uses, carries, handover, sweepGood, endsGood, sweepsGood, motionGood}
-use Rattle.meaning.specs.WellFormed.{Uses, GoodMotion}
-use Rattle.meaning.proofs.BasicsLaws.{and-left, and-right, some-any, any-some, any-at, each-all, all-each, below-at, below-all}
+use Rattle.meaning.specs.Site.{Site, Sweep, Motion, cellOf, covers, uses, carries, handover, sweepGood, endsGood, sweepsGood, motionGood, noMotion, motionAt, State, noState}
+use Rattle.meaning.specs.WellFormed.{Uses, GoodMotion, WellFormed}
+use Rattle.meaning.proofs.BasicsLaws.{and-left, and-right, some-any, any-some, any-at, each-all, all-each, below-at, below-all, each-at}
 
 -- ---- three and four tests that hold
 
@@ -67,7 +67,7 @@ true-handover ws j c h k = some-any (Covers c j) (carries ws j) (true-carries ws
 
 -- ---- the sweeps keep to the cells and the span
 
-abbrev Fits : ℕ → ℕ → Sweep → Type 0
+abbrev pub Fits : ℕ → ℕ → Sweep → Type 0
 Fits cells d w = (w .cell < cells) × (w .first ≤ w .last) × (w .last ≤ d)
 
 fits-true : (cells d : ℕ) (w : Sweep) → sweepGood cells d w ≡ true → Fits cells d w
@@ -75,7 +75,7 @@ fits-true cells d w h =
     let (x, y, z) = and-three (ltb (w .cell) cells) (leb (w .first) (w .last)) (leb (w .last) d) h in
     (ltb-true (w .cell) cells x, leb-true (w .first) (w .last) y, leb-true (w .last) d z)
 
-true-fits : (cells d : ℕ) (w : Sweep) → Fits cells d w → sweepGood cells d w ≡ true
+pub true-fits : (cells d : ℕ) (w : Sweep) → Fits cells d w → sweepGood cells d w ≡ true
 true-fits cells d w (x, y, z) = simp (lt-ltb (w .cell) cells x, le-leb (w .first) (w .last) y, le-leb (w .last) d z)
 
 -- ---- a motion
@@ -125,3 +125,11 @@ good-motion site m good =
       true-uses ws y d (good .to-cell),
       below-all (handover ws) d handed,
     )
+
+-- ---- a well-formed site, by number
+
+pub cell-known : (site : Site) → WellFormed site → (s : ℕ) → s < length (site .states) → cellOf site s < site .cells
+cell-known site well s known = each-at (λ (x : State). x .cell < site .cells) (site .states) noState (well .state-cells) s known
+
+pub good-at : (site : Site) → WellFormed site → (m : ℕ) → m < length (site .motions) → GoodMotion site (motionAt site m)
+good-at site well m known = each-at (GoodMotion site) (site .motions) noMotion (well .motions-good) m known

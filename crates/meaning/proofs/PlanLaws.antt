@@ -16,22 +16,16 @@ use Rattle.meaning.specs.Plan.{Step, wait, move, Node, freeFromTo, sweep
 use Rattle.meaning.specs.PlainBoard.{hasPair}
 use Rattle.meaning.specs.ValidPlans.{FreeFromTo, Leads, ends, waits, moves, Valid, Along, by-wait, by-motion, after-wait, after-motion, Holds, at-start, on-the-way}
 use Rattle.meaning.specs.Laws.{PlansRight}
-use Rattle.meaning.proofs.BasicsLaws.{every-at, every-nil, every-cons, decide, when-test, when-value, all-nil, all-cons, all-head, all-tail, all-append, allFrom-at, each-all, all-each, any-here, any-there, any-nil, any-case}
+use Rattle.meaning.proofs.BasicsLaws.{every-at, every-nil, every-cons, decide, when-test, when-value, all-nil, all-cons, all-head, all-tail, all-append, allFrom-in, allFrom-true, each-all, all-each, any-here, any-there, any-nil, any-case}
 
 -- ---- free from one tick to another
 
-all-true : (p : ℕ → Bool) (t n : ℕ) → ((x : ℕ) → t ≤ x → x < t + n → p x ≡ true) → allFrom p t n ≡ true
-all-true p t zero h = refl
-all-true p t (suc n) h = simp (h t (omega arith) (omega arith), all-true p (suc t) n (λ x lo hi. h x (omega arith) (omega arith)))
-
 module _ (f : Free) where
   free-throughout : (c t u : ℕ) → freeFromTo f c t u ≡ true → FreeFromTo f c t u
-  free-throughout c t u h x lo hi =
-      let same : t + (x - t) ≡ x = omega arith in
-      subst (λ (y : ℕ). f c y ≡ true) same (allFrom-at (f c) t (suc u - t) (x - t) h (omega arith))
+  free-throughout c t u h x lo hi = allFrom-in (f c) t (suc u - t) x h lo (omega arith)
 
   throughout-free : (c t u : ℕ) → FreeFromTo f c t u → freeFromTo f c t u ≡ true
-  throughout-free c t u h = all-true (f c) t (suc u - t) (λ x lo hi. h x lo (omega arith))
+  throughout-free c t u h = allFrom-true (f c) t (suc u - t) (λ x lo hi. h x lo (omega arith))
 
   sweeps-each : (ws : List Sweep) (t : ℕ) → sweepsFree f ws t ≡ true
       → Each (λ (w : Sweep). FreeFromTo f (w .cell) (t + w .first) (t + w .last)) ws

@@ -13,15 +13,13 @@ use lib.Dec.{leb, ltb, eqb}
 use borrow.Author.Tests.{ltb-true, ltb-false, leb-true, leb-false, eqb-true, le-leb, eq-eqb}
 use lib.ListN.{length, getD, List·getD-eq-default}
 use Rattle.meaning.specs.Basics.{every, allFrom, least, isZero}
-use Rattle.meaning.proofs.BasicsLaws.{and-left, and-right, every-at, every-nil, every-cons, decide, when-test, when-value, each-at, same-test, length-tabulate, tabulate-at, least-holds, least-below, least-range, least-found, least-same, options}
-use Rattle.meaning.specs.Site.{Site, Motion, noMotion, cellOf, standing, motionAt}
+use Rattle.meaning.proofs.BasicsLaws.{and-left, and-right, every-at, every-nil, every-cons, decide, when-test, when-value, same-test, length-tabulate, tabulate-at, least-holds, least-below, least-range, least-found, least-same, options}
+use Rattle.meaning.proofs.MotionLaws.{good-at}
+use Rattle.meaning.specs.Site.{Site, Motion, cellOf, standing, motionAt}
 use Rattle.meaning.specs.Board.{Free}
-use Rattle.meaning.specs.Plan.{Step, wait, move, Node, allowed, after, walk, startFree, planEnd}
-use Rattle.meaning.specs.WellFormed.{GoodMotion, WellFormed}
+use Rattle.meaning.specs.Plan.{Step, wait, move, Node, node as at, allowed, after, walk, startFree, planEnd}
+use Rattle.meaning.specs.WellFormed.{WellFormed}
 use Rattle.meaning.specs.Reach.{reachedIn, byWait, byMotion, wordBy, word, firstRow, withRow, rowsTo, reachWord, reached, wordIn, waitOne, trace, Route, tracedRoute, routeIn, findRoute}
-
-abbrev pub at : ℕ → ℕ → Node
-at s t = record { state = s; tick = t }
 
 -- ---- the rows
 
@@ -54,7 +52,7 @@ module _ (site : Site) (f : Free) (a : Node) where
   word-later k s h = tabulate-at (word site f (rowsTo site f a k) (a .tick + suc k)) 0 (length (site .states)) s h
 
   -- only states of the site are reached
-  reached-state : (k s : ℕ) → reached site f a k s ≡ true → s < length (site .states)
+  pub reached-state : (k s : ℕ) → reached site f a k s ≡ true → s < length (site .states)
   reached-state k s h =
       decide (ltb s (length (site .states)))
       (λ e. ltb-true _ _ e)
@@ -89,14 +87,11 @@ waitOne-merged (wait n ∷ ps) (e, pos, h) = (refl, omega arith, h)
 -- ---- what a well-formed site and an allowed step give
 
 module _ (site : Site) (well : WellFormed site) (m : ℕ) (known : m < length (site .motions)) where
-  good-at : GoodMotion site (motionAt site m)
-  good-at = each-at (GoodMotion site) (site .motions) noMotion (well .motions-good) m known
-
   pub to-known : motionAt site m .to < length (site .states)
-  to-known = good-at .to-below
+  to-known = good-at site well m known .to-below
 
   pub span-pos : 1 ≤ motionAt site m .span
-  span-pos = good-at .takes-time
+  span-pos = good-at site well m known .takes-time
 
 module _ (site : Site) (f : Free) where
   -- the parts of an allowed motion
@@ -269,7 +264,7 @@ module _ (site : Site) (well : WellFormed site) (f : Free) (a : Node) where
       by-move {k = k} m (suc k - d) (eqb-true _ _ (every-at _ tests 0)) (omega arith) (every-at _ (every-at _ tests 1) 1) (rw same at (every-at _ tests 2)) no-wait
       (λ l lt. least-below (arrives site f a k s) 0 (length (site .motions)) m q l (omega arith) lt)
 
-  pub came : (k s w : ℕ) → reachWord site f a k s ≡ suc w → Came site f a k s (suc w)
+  came : (k s w : ℕ) → reachWord site f a k s ≡ suc w → Came site f a k s (suc w)
   came zero s w h =
       let known : s < length (site .states) = reached-state site f a 0 s (rw h) in
       decide (every (eqb s (a .state) ∷ startFree site f a ∷ []))
@@ -291,6 +286,14 @@ module _ (site : Site) (well : WellFormed site) (f : Free) (a : Node) where
       (λ m q.
       let three : suc (suc (suc m)) ≡ suc w = simp (e, q) at value in
       subst (λ (v : ℕ). Came site f a (suc k) s v) three (move-came k s m q e)))
+
+  -- a reached node has a word, which says how it was reached
+  pub came-here : (k s : ℕ) → reached site f a k s ≡ true → Came site f a k s (reachWord site f a k s)
+  came-here k s r = by-word (reachWord site f a k s) refl
+    where
+      by-word : (w : ℕ) → reachWord site f a k s ≡ w → Came site f a k s (reachWord site f a k s)
+      by-word zero e = absurd (false≢true (rw e at r))
+      by-word (suc w) e = rw e (came k s w e)
 
 -- ---- the traced steps lead to the node that they are traced from
 
@@ -344,18 +347,13 @@ module _ (site : Site) (well : WellFormed site) (f : Free) (a : Node) (n : ℕ) 
 
   pub trace-walk : (fuel : ℕ) → TracesTo fuel
   trace-walk zero k s ps merged h hf r = absurd (not-suc-le-zero hf)
-  trace-walk (suc fuel) k s ps merged h hf r = by-word (trace-walk fuel) (reachWord site f a k s) refl
-    where
-      by-word : TracesTo fuel → (w : ℕ) → reachWord site f a k s ≡ w
-          → walk site f (trace site (rowsTo site f a n) n (suc fuel) k s ps) a ≡ walk site f ps (at s (a .tick + k))
-      by-word ih zero e = absurd (false≢true (rw e at r))
-      by-word ih (suc w) e = trace-came fuel ih (came site well f a k s w e) ps merged h hf (word-row k s h ∙ e)
+  trace-walk (suc fuel) k s ps merged h hf r = trace-came fuel (trace-walk fuel) (came-here site well f a k s r) ps merged h hf (word-row k s h)
 
 -- ---- whatever allowed steps lead to is reached
 
 module _ (site : Site) (well : WellFormed site) (f : Free) (a : Node) where
   -- a word from a wait, or from a motion, is not 0
-  reached-wait : (k s : ℕ) → reached site f a k s ≡ true → allowed site f (wait 1) (at s (a .tick + k)) ≡ true → reached site f a (suc k) s ≡ true
+  pub reached-wait : (k s : ℕ) → reached site f a k s ≡ true → allowed site f (wait 1) (at s (a .tick + k)) ≡ true → reached site f a (suc k) s ≡ true
   reached-wait k s r ok =
       let by-one : waited site f a k s ≡ true = every-cons _ _ r (every-cons _ _ ok every-nil) in
       ap (λ (w : ℕ). not (isZero w)) (word-next site well f a k s (reached-state site f a k s r)) ∙ simp by-one
@@ -379,7 +377,7 @@ module _ (site : Site) (well : WellFormed site) (f : Free) (a : Node) where
       let same-end : suc k + suc n ≡ k + suc (suc n) = omega arith in
       rw same-end at (reached-waits n (suc k) s (reached-wait k s r (wait-first site f s (a .tick + k) n ok)) (rw same at later))
 
-  reached-move : (m k s : ℕ) → reached site f a k s ≡ true → allowed site f (move m) (at s (a .tick + k)) ≡ true
+  pub reached-move : (m k s : ℕ) → reached site f a k s ≡ true → allowed site f (move m) (at s (a .tick + k)) ≡ true
       → reached site f a (k + motionAt site m .span) (motionAt site m .to) ≡ true
   reached-move m k s r ok =
       let x : Motion = motionAt site m in
@@ -436,7 +434,7 @@ module _ (site : Site) (well : WellFormed site) (f : Free) (a : Node) where
   -- where something is reached, the start is free
   start-of-reached : (fuel k s : ℕ) → k < fuel → reached site f a k s ≡ true → startFree site f a ≡ true
   start-of-reached zero k s hf r = absurd (not-suc-le-zero hf)
-  start-of-reached (suc fuel) k s hf r = by-word (start-of-reached fuel) (reachWord site f a k s) refl
+  start-of-reached (suc fuel) k s hf r = by-came (start-of-reached fuel) hf (came-here site well f a k s r)
     where
       by-came : {k s w : ℕ} → ((k s : ℕ) → k < fuel → reached site f a k s ≡ true → startFree site f a ≡ true) → k < suc fuel
           → Came site f a k s w → startFree site f a ≡ true
@@ -445,11 +443,6 @@ module _ (site : Site) (well : WellFormed site) (f : Free) (a : Node) where
       by-came ih h (by-move {k = k} m j same-to same-tick r ok no-wait lowest) =
           let pos : 1 ≤ motionAt site m .span = span-pos site well m (move-known site f m _ ok) in
           ih j (motionAt site m .from) (omega arith) r
-
-      by-word : ((k s : ℕ) → k < fuel → reached site f a k s ≡ true → startFree site f a ≡ true)
-          → (w : ℕ) → reachWord site f a k s ≡ w → startFree site f a ≡ true
-      by-word ih zero e = absurd (false≢true (rw e at r))
-      by-word ih (suc w) e = by-came ih hf (came site well f a k s w e)
 
   -- ---- the theorem on words: a node's word is not 0 exactly when a valid plan leads there
 

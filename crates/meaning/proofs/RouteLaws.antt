@@ -6,7 +6,6 @@ use mathlib.Core.Path.{_≡_, refl, sym, ap, _∙_, subst}
 use mathlib.Core.Bool.{true, false}
 use mathlib.Core.Option.{Option, some}
 use mathlib.Core.List.{List, [], _∷_, _++_}
-use borrow.Author.Tests.{leb-true, ltb-true}
 use lib.ListN.{length, take, drop}
 use lib.Seq.{take-append-seam}
 use Rattle.meaning.specs.Limits.{lastEdition}
@@ -17,15 +16,15 @@ use Rattle.meaning.specs.Board.{Free, free, edition}
 use Rattle.meaning.specs.Plan.{Step, Node}
 use Rattle.meaning.specs.Reach.{Route, findRoute}
 use Rattle.meaning.specs.Light.{Light, startOf, encode, decode}
-use Rattle.meaning.specs.Calls.{route, listed, bytesView, startNamed, Lent, refusals, routeFound, grantedLight, Done, acceptedDone, meant}
+use Rattle.meaning.specs.Calls.{route, listed, bytesView, Lent, refusals, routeFound, grantedLight, Done, acceptedDone, meant}
 use Rattle.meaning.specs.ValidPlans.{Valid, Reached}
 use Rattle.meaning.specs.WellFormed.{WellFormed, InLayout, KeepsLayout}
 use Rattle.meaning.specs.Demands.{lightOut, RouteRight}
-use Rattle.meaning.proofs.BasicsLaws.{every-at, options}
+use Rattle.meaning.proofs.BasicsLaws.{options}
 use Rattle.meaning.proofs.HolderLaws.{holders-right}
 use Rattle.meaning.proofs.LightLaws.{decode-encode}
 use Rattle.meaning.proofs.TraceLaws.{found-steps, search-right}
-use Rattle.meaning.proofs.CallLaws.{meant-accepted, PassesTo14, passes-to-14, search-found, search-none, granted-found}
+use Rattle.meaning.proofs.CallLaws.{meant-accepted, PassesTo14, passes-to-14, search-found, search-none, granted-found, named-start, named-tick, named-goal}
 
 module _ (file : List ℕ) (well : WellFormed (siteOf file)) (l : Lent) (fits : edition (l .board) ≤ lastEdition) (tug : ℕ) (a : Node) (goal : ℕ)
     (clears : Clears 14 (refusals file l (listed (route tug a goal)))) where
@@ -43,10 +42,6 @@ module _ (file : List ℕ) (well : WellFormed (siteOf file)) (l : Lent) (fits : 
 
   passes : PassesTo14 site l tug a goal
   passes = passes-to-14 file l tug a goal clears
-
-  same-free : bytesView site (l .board) .free ≡ f
-  unfolding bytesView
-  same-free = refl
 
   -- the search found nothing, or a route
   is-found : (t : ℕ) → Reached site f a (record { state = goal; tick = t }) → isNone (findRoute site f a goal) ≡ false
@@ -72,14 +67,14 @@ module _ (file : List ℕ) (well : WellFormed (siteOf file)) (l : Lent) (fits : 
     light-arrival = ap (λ (o : Option Route). routeFound o .arrival) e
 
     keeps : KeepsLayout granted
-    unfolding grantedLight bytesView startNamed
+    unfolding grantedLight bytesView
     keeps =
         let (laid, named, few, in-time) = found-steps site well f a goal r e in
         let most : site .horizon ≤ 1000 = well .horizon-range .1 in
         let states : length (site .states) ≤ 256 = well .states-range .1 in
-        let start-known : a .state < length (site .states) = ltb-true _ _ (every-at _ (passes .named) 0) in
-        let start-early : a .tick ≤ site .horizon = leb-true _ _ (every-at _ (passes .named) 1) in
-        let goal-known : goal < length (site .states) = ltb-true _ _ (every-at _ (passes .named) 2) in
+        let start-known : a .state < length (site .states) = named-start site a goal (passes .named) in
+        let start-early : a .tick ≤ site .horizon = named-tick site a goal (passes .named) in
+        let goal-known : goal < length (site .states) = named-goal site a goal (passes .named) in
         let (tug-low, tug-high) = holders-right .tugs tug (passes .is-tug) in
         let arrives : granted .arrival ≡ r .arrival = light-arrival in
         let steps : length (granted .steps) ≡ length (r .steps) = ap length light-steps in

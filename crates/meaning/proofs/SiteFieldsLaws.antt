@@ -92,7 +92,7 @@ sweep-bytes-length (w ∷ ws) = let e = sweep-bytes-length ws in omega arith
 abbrev pub IsState : Field → Type 0
 IsState f = isState f ≡ true
 
-state-parts : (f : Field) → IsState f → (f .tag ≡ stateTag) × (length (f .value) ≡ stateSize)
+pub state-parts : (f : Field) → IsState f → (f .tag ≡ stateTag) × (length (f .value) ≡ stateSize)
 unfolding isState
 state-parts f h = (
   eqb-true (f .tag) stateTag (and-left (eqb (f .tag) stateTag) (eqb (length (f .value)) stateSize) h),

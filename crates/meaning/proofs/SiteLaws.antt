@@ -79,10 +79,10 @@ motions-well site (f ∷ ms) (h, hs) k =
       motions-well site ms hs (all-tail (motionGood site) (motionOf f) (map motionOf ms) k),
     )
 
-state-number : (file : List ℕ) → Passes file → length (siteOf file .states) ≡ stateCount file
+pub state-number : (file : List ℕ) → layoutGood (stateCount file) (laterOf file) ≡ true → length (siteOf file .states) ≡ stateCount file
 unfolding siteOf
-state-number file p =
-    let enough = layout-enough (stateCount file) (laterOf file) (p .layout) in
+state-number file laid =
+    let enough = layout-enough (stateCount file) (laterOf file) laid in
     length-map (take (stateCount file) (laterOf file)) stateOf ∙ length-take-le (stateCount file) (laterOf file) enough
 
 passes-well : (file : List ℕ) → Passes file → WellFormed (siteOf file)
@@ -91,7 +91,7 @@ passes-well file p =
     let site = siteOf file in
     let ms = drop (stateCount file) (laterOf file) in
     let (moving, few) = motions-laid ms (layout-motions (stateCount file) (laterOf file) (p .layout)) in
-    let count = state-number file p in
+    let count = state-number file (p .layout) in
     let h = head-good (headOf file) (p .head) in
     record {
       horizon-range = h .horizon-range;
@@ -102,10 +102,11 @@ passes-well file p =
       motions-good = motions-well site ms moving (p .motions);
     }
 
+pub read-passes : (file : List ℕ) (site : Site) → readSite file ≡ accepted site → Passes file
+read-passes file site e = passes file (read-site file site e .0)
+
 pub read-well : (file : List ℕ) (site : Site) → readSite file ≡ accepted site → WellFormed site
-read-well file site e =
-    let (clear, same) = read-site file site e in
-    subst WellFormed same (passes-well file (passes file clear))
+read-well file site e = subst WellFormed (read-site file site e .1) (passes-well file (read-passes file site e))
 
 -- ---- what is accepted is the file of its site
 
@@ -119,7 +120,7 @@ passes-fields file p = head-first (listed (fields file)) (head-good (headOf file
 
 passes-head : (file : List ℕ) → Passes file → Bytes (headOf file .value) → headField (siteOf file) ≡ headOf file
 unfolding siteOf stateCount
-passes-head file p bytes = head-written (headOf file) (siteOf file) (head-good (headOf file) (p .head)) bytes refl refl (state-number file p)
+passes-head file p bytes = head-written (headOf file) (siteOf file) (head-good (headOf file) (p .head)) bytes refl refl (state-number file (p .layout))
 
 passes-states : (file : List ℕ) → Passes file → map stateField (siteOf file .states) ≡ take (stateCount file) (laterOf file)
 unfolding siteOf

@@ -13,8 +13,8 @@ use lib.ListN.{length}
 use Rattle.meaning.specs.Basics.{all}
 use Rattle.meaning.specs.Site.{Site, Motion, motionAt}
 use Rattle.meaning.specs.Board.{Free}
-use Rattle.meaning.specs.Plan.{Step, wait, move, Node, allowed, after, walk}
-use Rattle.meaning.specs.Reach.{rowsTo, reachWord, reached, wordIn, waitOne, trace, Route, findRoute}
+use Rattle.meaning.specs.Plan.{Step, wait, move, Node, allowed, after, walk, node as at}
+use Rattle.meaning.specs.Reach.{rowsTo, reached, wordIn, waitOne, trace, Route, findRoute}
 use Rattle.meaning.specs.Light.{Light, encode}
 use Rattle.meaning.specs.Calls.{stepNamed, lightRoom}
 use Rattle.meaning.specs.ValidPlans.{Leads, Valid, Reached, StepTo, Traced, begun, took-wait, took-motion, mergeWaits}
@@ -23,7 +23,7 @@ use Rattle.meaning.specs.Laws.{SearchRight}
 use Rattle.meaning.proofs.BasicsLaws.{every-nil, every-cons, when-test, when-value, all-nil, all-cons}
 use Rattle.meaning.proofs.PlanLaws.{walk-leads, leads-walk, plan-valid, valid-plan}
 use Rattle.meaning.proofs.LightLaws.{length-encode}
-use Rattle.meaning.proofs.ReachLaws.{at, Merged, waitOne-merged, span-pos, move-known, move-from, move-ends, wait-ends, walk-step, waited, arrives, move-arrives, Came, at-start, by-wait, by-move, came, trace-start, trace-wait, trace-move, word-row, Found, reached-sound, plan-reached, reached-complete, Arrives, found-arrives, route-valid, route-earliest, route-none}
+use Rattle.meaning.proofs.ReachLaws.{Merged, waitOne-merged, span-pos, move-known, move-from, move-ends, wait-ends, walk-step, waited, arrives, move-arrives, Came, at-start, by-wait, by-move, came-here, trace-start, trace-wait, trace-move, word-row, Found, reached-sound, plan-reached, reached-complete, Arrives, found-arrives, route-valid, route-earliest, route-none}
 
 -- ---- one step
 
@@ -172,12 +172,7 @@ module _ (site : Site) (well : WellFormed site) (f : Free) (a : Node) where
 
     trace-follows : (fuel k s : ℕ) → k ≤ n → k < fuel → reached site f a k s ≡ true → Follows fuel k s
     trace-follows zero k s h hf r = absurd (not-suc-le-zero hf)
-    trace-follows (suc fuel) k s h hf r = by-word (trace-follows fuel) (reachWord site f a k s) refl
-      where
-        by-word : ((k s : ℕ) → k ≤ n → k < fuel → reached site f a k s ≡ true → Follows fuel k s)
-            → (w : ℕ) → reachWord site f a k s ≡ w → Follows (suc fuel) k s
-        by-word ih zero e = absurd (false≢true (rw e at r))
-        by-word ih (suc w) e = follows-came fuel ih (came site well f a k s w e) h hf (word-row site well f a n k s h ∙ e)
+    trace-follows (suc fuel) k s h hf r = follows-came fuel (trace-follows fuel) (came-here site well f a k s r) h hf (word-row site well f a n k s h)
 
   found-valid : (goal : ℕ) (r : Route) → findRoute site f a goal ≡ some r → Valid site f a (r .steps) (at goal (r .arrival))
   found-valid goal r h = plan-valid site f a (r .steps) (at goal (r .arrival)) (route-valid site well f a goal r h)

@@ -9,7 +9,7 @@ use Rattle.meaning.specs.Answers.{Answer, accepted, refused}
 use Rattle.meaning.specs.Fields.{Field, fieldsBytes}
 use Rattle.meaning.specs.Site.{siteOf, readSite}
 use Rattle.meaning.specs.Board.{free, edition}
-use Rattle.meaning.specs.Plan.{Step, wait, move, Node}
+use Rattle.meaning.specs.Plan.{Step, wait, move, Node, node}
 use Rattle.meaning.specs.Reach.{Route}
 use Rattle.meaning.specs.Light.{Light, decode}
 use Rattle.meaning.specs.Calls.{route, post, close, PublicCall, opening, interval, listed, lends, Done, meant}
@@ -30,9 +30,6 @@ siteFile =
     ∷ 3 ∷ 0 ∷ 8 ∷ 0 ∷ 1 ∷ 0 ∷ 2 ∷ 2 ∷ 1 ∷ 0 ∷ 2
     ∷ 3 ∷ 0 ∷ 11 ∷ 0 ∷ 2 ∷ 0 ∷ 3 ∷ 2 ∷ 1 ∷ 0 ∷ 1 ∷ 2 ∷ 1 ∷ 2
     ∷ []
-
-abbrev pub node : ℕ → ℕ → Node
-node s t = record { state = s; tick = t }
 
 -- ---- calls on a board, with areas that just fit and are not zero
 

@@ -89,9 +89,8 @@ pub record HandoverRight : Type 0 where
   pub handed : (site : Site) → WellFormed site → (f : Free) (a : Node) (ps : List Step) (b : Node) → Valid site f a ps b
       → (t : ℕ) → a .tick ≤ t → t < b .tick
       → (c : ℕ) × Holds site a ps c t × Holds site a ps c (suc t)
-  -- so of two plans that share no pair, neither moves into cells that the other leaves at that moment: they never change places
-  pub no-swap : (site : Site) → WellFormed site → (f g : Free) (a d : Node) (ps qs : List Step) (b e : Node)
-      → Valid site f a ps b → Valid site g d qs e
+  -- so of two plans that share no pair, a valid one never moves into the cells that the other leaves at that moment: they never change places
+  pub no-swap : (site : Site) → WellFormed site → (f : Free) (a d : Node) (ps qs : List Step) (b : Node) → Valid site f a ps b
       → ((c t : ℕ) → Holds site a ps c t → Holds site d qs c t → ⊥)
       → (t : ℕ) → a .tick ≤ t → t < b .tick
       → ((c : ℕ) → Holds site a ps c (suc t) → Holds site d qs c t) → ⊥

@@ -20,6 +20,9 @@ pub record Node : Type 0 where
   pub state : ℕ
   pub tick : ℕ
 
+abbrev pub node : ℕ → ℕ → Node
+node s t = record { state = s; tick = t }
+
 -- ---- what is allowed
 
 -- the cell is free from t to u, both included

@@ -16,7 +16,7 @@ use Rattle.meaning.specs.Plan as Plan
 use Rattle.meaning.specs.Plan.{startFree, planEnd, walk, wait, move}
 use Rattle.meaning.specs.Light.{isLight, lightOf, startOf}
 use Rattle.meaning.specs.Calls.{isAt, lightValid, startNamed, stepNamed, lightNamed}
-use Rattle.meaning.proofs.BasicsLaws.{every-at}
+use Rattle.meaning.proofs.BasicsLaws.{every-at, every-fails}
 use Rattle.light.specs.Steps.{headOf, stepsFrom}
 use Rattle.light.specs.declared.Head.{Head}
 use Rattle.light.proofs.HeadLaws.{accepted}
@@ -26,7 +26,6 @@ use Rattle.site.specs.declared.Layout.{Layout}
 use Rattle.steps.specs.declared.Node.{Node}
 use Rattle.steps.specs.Nodes.{nodeOf, Here}
 use Rattle.plan.specs.Walks.{startIn}
-use Rattle.steps.proofs.StepLaws.{every-no}
 
 -- ---- tests in a row
 
@@ -54,11 +53,11 @@ two-then false x y b h = rw (← h)
 module _ (site : Site) (f : Free) (a : Plan.Node) where
   pub start-unknown : length (site .states) ≤ a .state → startFree site f a ≡ false
   unfolding startFree
-  start-unknown h = every-no _ 0 (le-ltb _ _ h)
+  start-unknown h = every-fails _ 0 (le-ltb _ _ h)
 
   pub start-late : (h : ℕ) → site .horizon ≡ h → leb (a .tick) h ≡ false → startFree site f a ≡ false
   unfolding startFree
-  start-late h p e = every-no _ 1 (ap (leb (a .tick)) p ∙ e)
+  start-late h p e = every-fails _ 1 (ap (leb (a .tick)) p ∙ e)
 
   pub start-is : (h : ℕ) → a .state < length (site .states) → site .horizon ≡ h → leb (a .tick) h ≡ true
       → startFree site f a ≡ f (cellOf site (a .state)) (a .tick)
@@ -72,7 +71,7 @@ start-known file f a h = record { state = ltb-true _ _ (every-at _ h 0); tick = 
 -- ---- where it ends
 
 pub other-state : (s t : ℕ) (a : Plan.Node) → (a .state ≡ s → ⊥) → isAt s t (some a) ≡ false
-other-state s t a h = every-no (eqb (a .state) s ∷ eqb (a .tick) t ∷ []) 0 (ne-eqb _ _ h)
+other-state s t a h = every-fails (eqb (a .state) s ∷ eqb (a .tick) t ∷ []) 0 (ne-eqb _ _ h)
 
 pub same-state : (s t : ℕ) (a : Plan.Node) → a .state ≡ s → isAt s t (some a) ≡ eqb (a .tick) t
 same-state s t a h = last-of-two (eqb (a .state) s) (eqb (a .tick) t) (eq-eqb _ _ h)
@@ -132,15 +131,15 @@ module _ (s : Site) (l : Layout) (same : l ≡ layoutOf s) (h : Head) (a : Plan.
 
   pub head-start : l .states ≤ a .state → named (startIn h) ≡ false
   unfolding startNamed
-  head-start p = sym (ap named begins) ∙ every-no _ 0 (every-no _ 0 (le-ltb (a .state) (length (s .states)) (omega (arith, count))))
+  head-start p = sym (ap named begins) ∙ every-fails _ 0 (every-fails _ 0 (le-ltb (a .state) (length (s .states)) (omega (arith, count))))
 
   pub head-goal : l .states ≤ h .goal → named (startIn h) ≡ false
   unfolding startNamed
-  head-goal p = every-no _ 0 (every-no _ 2 (le-ltb (h .goal) (length (s .states)) (omega (arith, count))))
+  head-goal p = every-fails _ 0 (every-fails _ 2 (le-ltb (h .goal) (length (s .states)) (omega (arith, count))))
 
   pub head-late : leb (a .tick) (l .horizon) ≡ false → named (startIn h) ≡ false
   unfolding startNamed
-  head-late p = sym (ap named begins) ∙ every-no _ 0 (every-no _ 1 (ap (leb (a .tick)) (sym end) ∙ p))
+  head-late p = sym (ap named begins) ∙ every-fails _ 0 (every-fails _ 1 (ap (leb (a .tick)) (sym end) ∙ p))
 
   pub head-on : a .state < l .states → h .goal < l .states → leb (a .tick) (l .horizon) ≡ true → named (startIn h) ≡ leb (h .arrival) (l .horizon)
   unfolding startNamed

@@ -1,18 +1,17 @@
 -- A walk of a light's steps from place to place: what is left to walk leads where the whole walk does.
 -- Assumes nothing.
-use Prim.Native.Nat.{ℕ, _+_, _≤_, _<_}
+use Prim.Native.Nat.{ℕ, _+_, _<_}
 use native.Mathlib.Omega.{arith}
 use mathlib.Core.Path.{_≡_, sym, ap, _∙_}
 use mathlib.Core.Bool.{true, false}
 use mathlib.Core.List.{List, [], _∷_}
 use mathlib.Core.Option.{none, some}
 use lib.ListN.{length}
-use borrow.Author.Tests.{leb-true}
 use Rattle.meaning.specs.Site.{Site, siteOf, motionAt}
 use Rattle.meaning.specs.Board.{Free}
 use Rattle.meaning.specs.Plan as Plan
 use Rattle.meaning.specs.Plan.{wait, move, allowed, after, walk}
-use Rattle.meaning.proofs.BasicsLaws.{every-at}
+use Rattle.meaning.proofs.ReachLaws.{walk-step, wait-ends, move-ends}
 use Rattle.light.specs.Steps.{laidFrom, stepsFrom}
 use Rattle.light.proofs.StepLaws.{On}
 use Rattle.steps.specs.declared.Node.{Node}
@@ -21,23 +20,9 @@ use Rattle.steps.specs.Nodes.{nodeOf, Here}
 -- ---- one step of a walk
 
 module _ (site : Site) (f : Free) (p : Plan.Step) (ps : List Plan.Step) (a : Plan.Node) where
-  walk-on : allowed site f p a ≡ true → walk site f (p ∷ ps) a ≡ walk site f ps (after site p a)
-  unfolding walk
-  walk-on h = rw h
-
   walk-off : allowed site f p a ≡ false → walk site f (p ∷ ps) a ≡ none
   unfolding walk
   walk-off h = rw h
-
--- a step that is allowed ends by the horizon
-module _ (site : Site) (f : Free) (a : Plan.Node) where
-  pub wait-ends : (n : ℕ) → allowed site f (wait n) a ≡ true → a .tick + n ≤ site .horizon
-  unfolding allowed
-  wait-ends n h = leb-true _ _ (every-at _ h 3)
-
-  pub move-ends : (k : ℕ) → allowed site f (move k) a ≡ true → a .tick + motionAt site k .span ≤ site .horizon
-  unfolding allowed
-  move-ends k h = leb-true _ _ (every-at _ h 3)
 
 -- ---- the walk, at a place of the light
 
@@ -62,7 +47,7 @@ module _ {file : List ℕ} {f : Free} {light : List ℕ} {first : ℕ} {start : 
     known = k;
     rest =
         sym (ap (λ (ps : List Plan.Step). walk (siteOf file) f ps (nodeOf here)) (o .steps)
-        ∙ walk-on (siteOf file) f p (stepsFrom light later) (nodeOf here) h
+        ∙ walk-step (siteOf file) f p (stepsFrom light later) (nodeOf here) h
         ∙ ap (walk (siteOf file) f (stepsFrom light later)) e)
         ∙ w .rest;
   }
@@ -70,7 +55,7 @@ module _ {file : List ℕ} {f : Free} {light : List ℕ} {first : ℕ} {start : 
   pub walk-waits : {later n : ℕ} → On light at later (wait n) → allowed (siteOf file) f (wait n) (nodeOf here) ≡ true
       → (b : Node) → (b .state ≡ here .state) × (b .tick .0 ≡ here .tick .0 + n) → Walking file f light first start later b
   walk-waits {later} {n} o h b (s, t) =
-      let in-time = wait-ends (siteOf file) f (nodeOf here) n h in
+      let in-time = wait-ends (siteOf file) f n (nodeOf here) h in
       let k = w .known .state in
       walk-goes o h b (record { state = omega arith; tick = omega arith }) (λ i. record { state = sym s i; tick = sym t i })
 
@@ -78,7 +63,7 @@ module _ {file : List ℕ} {f : Free} {light : List ℕ} {first : ℕ} {start : 
       → (b : Node) → b .state ≡ motionAt (siteOf file) k .to → b .tick .0 ≡ here .tick .0 + motionAt (siteOf file) k .span
       → motionAt (siteOf file) k .to < length (siteOf file .states) → Walking file f light first start later b
   walk-moves {later} {k} o h b s t below =
-      let in-time = move-ends (siteOf file) f (nodeOf here) k h in
+      let in-time = move-ends (siteOf file) f k (nodeOf here) h in
       walk-goes o h b (record { state = omega arith; tick = omega arith }) (λ i. record { state = sym s i; tick = sym t i })
 
   -- at the end

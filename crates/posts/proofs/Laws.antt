@@ -6,18 +6,20 @@ use mathlib.Core.Bool.{true, false, not}
 use mathlib.Core.List.{List, [], _∷_, _++_}
 use lib.Dec.{eqb}
 use lib.ListN.{length}
-use borrow.Author.Tests.{ltb-true, eq-eqb, ne-eqb}
+use borrow.Author.Tests.{eq-eqb, ne-eqb}
 use Rattle.meaning.specs.Limits.{fileLimit, lastEdition}
 use Rattle.meaning.specs.Answers.{Refusal, _if_, lowest}
 use Rattle.meaning.specs.Site.{Site, siteOf, standing, stateAt}
 use Rattle.meaning.specs.Board.{isTug, mark, nextEdition}
-use Rattle.meaning.specs.Light.{Light, isLight, lightOf}
-use Rattle.meaning.specs.Calls.{post, View, startNamed, lightNamed, lightValid, lightRefusals, lightPairs, changed}
+use Rattle.meaning.specs.Light.{Light, isLight, lightOf, startOf}
+use Rattle.meaning.specs.Calls.{post, View, lightNamed, lightValid, lightRefusals, lightPairs, changed}
 use Rattle.meaning.proofs.BasicsLaws.{every-at}
 use Rattle.meaning.proofs.CheckLaws.{hit, miss, none-left}
+use Rattle.meaning.proofs.SiteLaws.{read-passes}
+use Rattle.meaning.proofs.CallLaws.{named-goal}
 use Rattle.layout.specs.Laid.{statePlace, Laid}
 use Rattle.site.specs.declared.Layout.{Layout}
-use Rattle.site.proofs.Accepted.{read-passed}
+use Rattle.site.proofs.Accepted.{read-laid}
 use Rattle.steps.specs.Ready.{Ready}
 use Rattle.board.proofs.Uses.{next-mark}
 use Rattle.posts.specs.Tail.{editionRefusals}
@@ -26,15 +28,13 @@ use Rattle.posts.specs.Tail.{editionRefusals}
 
 -- the goal that a light names is one of the site's states
 pub goal-below : (site : Site) (l : Light) → lightNamed site l ≡ true → l .goal < length (site .states)
-unfolding lightNamed startNamed
-goal-below site l h = ltb-true _ _ (every-at _ (every-at _ h 0) 2)
+unfolding lightNamed
+goal-below site l h = named-goal site (startOf l) (l .goal) (every-at _ h 0)
 
 -- a file that is ready is laid out, and the layout says where its motions start
 pub ready-index : {file : List ℕ} {room : ℕ} {l : Layout} → Ready file room l
     → (length file ≤ fileLimit) × Laid file × (l .start ≡ statePlace (length (siteOf file .states)))
-ready-index {file} r =
-    let p = read-passed file (siteOf file) (r .read) .0 in
-    (p .short, p .laid, ap (λ (k : Layout). k .start) (r .layout))
+ready-index {file} r = (read-passes file _ (r .read) .short, read-laid file _ (r .read), ap (λ (k : Layout). k .start) (r .layout))
 
 -- ---- the numbers
 

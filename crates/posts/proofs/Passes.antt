@@ -14,13 +14,11 @@ use Rattle.meaning.specs.Board.{edition, free}
 use Rattle.meaning.specs.Light.{isLight, lightOf}
 use Rattle.meaning.specs.Calls.{PublicCall, listed, audit, post, Lent, onBoard, bytesView, lightValid, lightRefusals, refusals}
 use Rattle.meaning.proofs.AnswersLaws as AnswersLaws
-use Rattle.meaning.proofs.CallLaws.{Parts, parts}
-use Rattle.meaning.proofs.SiteLaws.{site-read}
 use Rattle.site.specs.declared.Layout.{Layout}
 use Rattle.steps.specs.Ready.{Ready}
 use Rattle.calls.specs.declared.Check.the-variants.{Passed}
 use Rattle.calls.specs.Checks.{checkBy}
-use Rattle.calls.proofs.Passes.{none-applies, layout-said, board-length, later-passed, edition-below}
+use Rattle.calls.proofs.Passes.{layout-said, board-length, later-passed, edition-below, file-read}
 use Rattle.posts.specs.Work.{Postable}
 
 -- ---- any call
@@ -28,15 +26,7 @@ use Rattle.posts.specs.Work.{Postable}
 -- the site and the board are as the functions on plans ask
 pub ready : (file : List ℕ) (lent : Lent) (q : PublicCall) (l : Layout) → Passed l ≡ checkBy (siteOf file) (lowest (refusals file lent q))
     → Ready file (length (lent .board)) l
-ready file lent q l e =
-    let passed : Parts file lent q AnswersLaws.Passed =
-    parts AnswersLaws.Passed file lent q
-    (AnswersLaws.lowest-none (refusals file lent q) (AnswersLaws.all-rise file lent q) (none-applies file lent q l e)) in
-    record {
-      read = site-read file (AnswersLaws.lowest-clear _ (passed .of-site));
-      layout = layout-said file lent q l e;
-      board = board-length file lent q l e;
-    }
+ready file lent q l e = record { read = file-read file lent q l e; layout = layout-said file lent q l e; board = board-length file lent q l e }
 
 -- ---- post
 

@@ -1,3 +1,2 @@
 pub mod AllowLaws
 pub mod RightLaws
-pub mod RangeLaws

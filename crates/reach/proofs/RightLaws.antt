@@ -3,22 +3,22 @@
 use Prim.Native.Nat.{ℕ, zero, suc, _+_, _-_, _≤_, _<_}
 use native.Mathlib.Nat.{not-suc-le-zero}
 use native.Mathlib.Omega.{arith}
-use mathlib.Core.Path.{_≡_, refl, sym, ap, _∙_, subst}
-use mathlib.Core.Bool.{Bool, true, false, _&&_, not, false≢true}
-use mathlib.Core.Option.{Option, some}
-use mathlib.Core.List.{List, []}
+use mathlib.Core.Path.{_≡_, refl, sym, _∙_, subst}
+use mathlib.Core.Bool.{Bool, true, false, _&&_, false≢true}
+use mathlib.Core.List.{List}
 use lib.Dec.{leb, ltb}
-use lib.ListN.{length, getD, List·getD-eq-default}
-use borrow.Author.Tests.{leb-true, ltb-true, ltb-false, le-leb, lt-ltb, eq-eqb, eqb-true}
-use Rattle.meaning.specs.Basics.{allFrom, isZero, here, there}
-use Rattle.meaning.specs.Site.{Site, Sweep, Motion, noMotion, stateAt, motionAt, cellOf}
+use lib.ListN.{length}
+use borrow.Author.Tests.{leb-true, le-leb, lt-ltb, eq-eqb, eqb-true}
+use Rattle.meaning.specs.Basics.{allFrom, here, there}
+use Rattle.meaning.specs.Site.{Site, Sweep, Motion, stateAt, motionAt, cellOf}
 use Rattle.meaning.specs.Board.{Free, free}
-use Rattle.meaning.specs.Plan.{wait, move, Node, sweepsFree, allowed, startFree}
-use Rattle.meaning.specs.Reach.{wordBy, firstRow, withRow, rowsTo, reachWord, reached}
-use Rattle.meaning.specs.WellFormed.{Uses, GoodMotion, WellFormed}
-use Rattle.meaning.proofs.BasicsLaws.{decide, and-left, and-right, every-at, every-nil, every-cons, all-head, all-tail, allFrom-at, each-at, least-found, same-test, length-tabulate}
-use Rattle.meaning.proofs.ReachLaws.{at, to-known, span-pos, move-known, move-ends, wait-ends, waited, arrives, move-arrives, word-next, Came, at-start, by-wait, by-move, came, reached-start}
+use Rattle.meaning.specs.Plan.{wait, move, Node, sweepsFree, allowed, startFree, node as at}
+use Rattle.meaning.specs.Reach.{reached}
+use Rattle.meaning.specs.WellFormed.{Uses, WellFormed}
+use Rattle.meaning.proofs.BasicsLaws.{decide, and-left, and-right, every-at, every-nil, every-cons, all-head, all-tail, same-test, allFrom-in}
+use Rattle.meaning.proofs.ReachLaws.{span-pos, move-known, move-ends, wait-ends, Came, at-start, by-wait, by-move, came-here, reached-start, reached-state, reached-wait, reached-move}
 use Rattle.meaning.proofs.TraceLaws.{reached-pair}
+use Rattle.meaning.proofs.MotionLaws.{good-at}
 use Rattle.rows.specs.Rows.{has}
 use Rattle.frees.specs.Frees.{rowsFree}
 use Rattle.reach.specs.Decoded.{Decoded, Starts, reachedAt}
@@ -61,51 +61,10 @@ module _ (site : Site) (f : Free) where
   -- a cell that some sweep uses at an offset is free then
   used-free : (c j t : ℕ) {ws : List Sweep} → Uses ws c j → sweepsFree f ws t ≡ true → f c (t + j) ≡ true
   used-free c j t (here {x = w} {xs = ws} (same, lo, hi)) h =
-      let frees : allFrom (f (w .cell)) (t + w .first) (suc (t + w .last) - (t + w .first)) ≡ true = all-head _ w ws h in
-      let tick : t + w .first + (j - w .first) ≡ t + j = omega arith in
-      rw (← same, ← tick) (allFrom-at (f (w .cell)) (t + w .first) (suc (t + w .last) - (t + w .first)) (j - w .first) frees (omega arith))
+      rw (← same) (allFrom-in (f (w .cell)) (t + w .first) (suc (t + w .last) - (t + w .first)) (t + j) (all-head _ w ws h) (omega arith) (omega arith))
   used-free c j t (there {x = w} {xs = ws} u) h = used-free c j t u (all-tail _ w ws h)
 
 -- ---- the reached pairs are closed
-
-module _ (site : Site) (f : Free) (a : Node) where
-  row-length : (k : ℕ) → length (getD (rowsTo site f a k) 0 []) ≡ length (site .states)
-  unfolding rowsTo withRow firstRow
-  row-length zero = length-tabulate _ 0 (length (site .states))
-  row-length (suc k) = length-tabulate _ 0 (length (site .states))
-
-  -- only states of the site are reached
-  state-known : (k s : ℕ) → reached site f a k s ≡ true → s < length (site .states)
-  state-known k s h =
-      decide (ltb s (length (site .states)))
-      (λ e. ltb-true _ _ e)
-      (λ e.
-      let past : length (site .states) ≤ s = ltb-false _ _ e in
-      let none-there : reachWord site f a k s ≡ 0 = List·getD-eq-default (getD (rowsTo site f a k) 0 []) 0 {n = s} (omega (arith, row-length k)) in
-      absurd (false≢true (rw none-there at h)))
-
-module _ (site : Site) (well : WellFormed site) (f : Free) (a : Node) where
-  reached-wait : (k s : ℕ) → s < length (site .states) → reached site f a k s ≡ true → allowed site f (wait 1) (at s (a .tick + k)) ≡ true
-      → reached site f a (suc k) s ≡ true
-  reached-wait k s known r ok =
-      let by-one : waited site f a k s ≡ true = every-cons _ _ r (every-cons _ _ ok every-nil) in
-      ap (λ (w : ℕ). not (isZero w)) (word-next site well f a k s known) ∙ simp by-one
-
-  reached-move : (m k : ℕ) → m < length (site .motions) → reached site f a k (motionAt site m .from) ≡ true
-      → allowed site f (move m) (at (motionAt site m .from) (a .tick + k)) ≡ true
-      → reached site f a (k + motionAt site m .span) (motionAt site m .to) ≡ true
-  reached-move m k known r ok =
-      let x : Motion = motionAt site m in
-      let pos : 1 ≤ x .span = span-pos site well m known in
-      let j : ℕ = k + (x .span - 1) in
-      let end : suc j ≡ k + x .span = omega arith in
-      let there-too : arrives site f a j (x .to) m ≡ true = move-arrives site f a j (x .to) m k refl (omega arith) r ok in
-      let (i, q) = least-found (arrives site f a j (x .to)) 0 (length (site .motions)) m there-too (omega arith) (omega arith) in
-      rw end at (ap (λ (w : ℕ). not (isZero w)) (word-next site well f a j (x .to) (to-known site well m known)) ∙ some-word (waited site f a j (x .to)) q)
-    where
-      some-word : (b : Bool) {o : Option ℕ} {i : ℕ} → o ≡ some i → not (isZero (wordBy b o)) ≡ true
-      some-word true q = refl
-      some-word false q = simp q
 
 -- ---- the result
 
@@ -131,9 +90,6 @@ module _ (site : Site) (well : WellFormed site) (board : List ℕ) (n k : ℕ) (
 
   few : site .horizon ≤ 1000
   few = well .horizon-range .1
-
-  good : (m : ℕ) → m < length (site .motions) → GoodMotion site (motionAt site m)
-  good m h = each-at (GoodMotion site) (site .motions) noMotion (well .motions-good) m h
 
   same-free : rowsFree fr ≡ f
   same-free = λ i c t. frees c t i
@@ -165,7 +121,7 @@ module _ (site : Site) (well : WellFormed site) (board : List ℕ) (n k : ℕ) (
       wait-made site f s t (sym (dec .speed s below) ∙ stands) free-now free-next (in-time (cellOf site s) (suc t) free-next) in
       subst (λ (u : ℕ). R s u ≡ true) next-tick
       (pair-in s (suc (t - tick))
-      (reached-wait site well f a (t - tick) s (omega (arith, dec .states)) (pair-reached s t r) (rw here-tick ok)))
+      (reached-wait site well f a (t - tick) s (pair-reached s t r) (rw here-tick ok)))
 
   moves-closed : Below (MoveClosed mv al) k R
   moves-closed m below t h r may =
@@ -176,12 +132,12 @@ module _ (site : Site) (well : WellFormed site) (board : List ℕ) (n k : ℕ) (
       let here-tick : tick + (t - tick) ≡ t = omega arith in
       let end-tick : tick + (t - tick + x .span) ≡ t + x .span = omega arith in
       let swept : sweepsFree f (x .sweeps) t ≡ true = sym (may-start m t below (omega arith)) ∙ may in
-      let end : t + x .span ≤ site .horizon = in-time (cellOf site (x .to)) (t + x .span) (used-free site f _ (x .span) t (good m mine .to-cell) swept) in
+      let end : t + x .span ≤ site .horizon = in-time (cellOf site (x .to)) (t + x .span) (used-free site f _ (x .span) t (good-at site well m mine .to-cell) swept) in
       let ok : allowed site f (move m) (at (x .from) t) ≡ true = move-made site f m t mine swept end in
       let there-too : R (x .to) (t + x .span) ≡ true =
       subst (λ (u : ℕ). R (x .to) u ≡ true) end-tick
       (pair-in (x .to) (t - tick + x .span)
-      (reached-move site well f a m (t - tick) mine (pair-reached (x .from) t r-from) (rw here-tick ok))) in
+      (reached-move site well f a m (t - tick) (x .from) (pair-reached (x .from) t r-from) (rw here-tick ok))) in
       rw (dec .to m below, dec .span m below) there-too
 
   -- and every closed set with the start has them
@@ -216,11 +172,7 @@ module _ (site : Site) (well : WellFormed site) (board : List ℕ) (n k : ℕ) (
 
     all-in : (fuel j s : ℕ) → j < fuel → reached site f a j s ≡ true → Q s (tick + j) ≡ true
     all-in zero j s h r = absurd (not-suc-le-zero h)
-    all-in (suc fuel) j s h r = by-word (all-in fuel) (reachWord site f a j s) refl
-      where
-        by-word : ((j s : ℕ) → j < fuel → reached site f a j s ≡ true → Q s (tick + j) ≡ true) → (w : ℕ) → reachWord site f a j s ≡ w → Q s (tick + j) ≡ true
-        by-word ih zero e = absurd (false≢true (rw e at r))
-        by-word ih (suc w) e = by-came fuel ih (came site well f a j s w e) h (state-known site f a j s r)
+    all-in (suc fuel) j s h r = by-came fuel (all-in fuel) (came-here site well f a j s r) h (reached-state site f a j s r)
 
   start-free : has fr (cellAt st start) tick ≡ true → startFree site f a ≡ true
   unfolding startFree

@@ -52,9 +52,6 @@ Sweeps k mv sw = (m : ℕ) → m < k → SweepsIn sw (placeAt mv m) (countAt mv 
 abbrev pub Starts : ℕ → List ℕ → List ℕ → List ℕ → List ℕ → Type 0
 Starts k mv sw fr al = (m t : ℕ) → m < k → t < 1024 → has al m t ≡ sweepsFree (rowsFree fr) (sweepsOf mv sw m) t
 
-abbrev pub node : ℕ → ℕ → Node
-node s t = record { state = s; tick = t }
-
 -- s is reached at the tick t: not below the start's tick
 abbrev pub reachedAt : Site → Free → Node → ℕ → ℕ → Bool
 reachedAt site f a s t = leb (a .tick) t && reached site f a (t - a .tick) s

@@ -6,12 +6,12 @@ ghost use lib.ListN.{length};
 ghost use Rattle.meaning.specs.Site.{Site};
 ghost use Rattle.meaning.specs.WellFormed.{WellFormed};
 ghost use Rattle.meaning.specs.Board.{free};
-ghost use Rattle.meaning.specs.Plan.{sweepsFree};
+ghost use Rattle.meaning.specs.Plan.{sweepsFree, node};
 ghost use Rattle.rows.specs.Rows.{has, Changed};
 ghost use Rattle.frees.specs.Frees.{rowsFree};
 ghost use Rattle.rounds.specs.Arrays.{cellAt, States, Motions};
 ghost use Rattle.rounds.specs.Rounds.{Closed, Explored};
-ghost use Rattle.reach.specs.Decoded.{sweepsAt, Decoded, SweepsIn, Sweeps, Starts, node, ReachedRows};
+ghost use Rattle.reach.specs.Decoded.{sweepsAt, Decoded, SweepsIn, Sweeps, Starts, ReachedRows};
 
 fn byte(x: u8) -> usize
     ensures { λ r. ⌜ (r ≡ x) × (r < 256) ⌝ }

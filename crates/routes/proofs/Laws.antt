@@ -1,26 +1,21 @@
 -- Laws of the checks of a route call: its list in two parts, and each of its tests.
 -- Assumes nothing.
-use Prim.Native.Nat.{ℕ, _+_, _*_, _<_, _≤_}
-use native.Mathlib.Omega.{arith}
-use native.Mathlib.Nat.{mul-le-mul-right}
+use Prim.Native.Nat.{ℕ, _<_, _≤_}
 use mathlib.Core.Path.{_≡_, refl, sym, ap, _∙_}
-use mathlib.Core.Bool.{Bool, true, false, and-true, and-false}
+use mathlib.Core.Bool.{false, and-true, and-false}
 use mathlib.Core.List.{List, [], _∷_, _++_}
 use lib.Dec.{leb, ltb}
 use lib.ListN.{length}
-use borrow.Author.Tests.{ltb-true, leb-true, lt-ltb, le-ltb, le-leb, lt-leb}
-use Rattle.meaning.specs.Limits.{horizonLimit, stateLimit}
+use borrow.Author.Tests.{lt-ltb, le-ltb, le-leb, lt-leb}
 use Rattle.meaning.specs.Basics.{every, Each, isNone}
 use Rattle.meaning.specs.Answers.{Refusal, _if_, lowest, accepted}
 use Rattle.meaning.specs.Site.{Site, siteOf, siteRefusals, readSite}
 use Rattle.meaning.specs.Plan.{Node}
 use Rattle.meaning.specs.Reach.{findRoute}
-use Rattle.meaning.specs.Calls.{route, opening, listed, View, bytesView, Room, startNamed, lightRoom, wordsNeeded, routeRefusals, Lent, refusals}
-use Rattle.meaning.proofs.BasicsLaws.{decide, every-at}
+use Rattle.meaning.specs.Calls.{route, opening, listed, bytesView, Room, startNamed, lightRoom, wordsNeeded, routeRefusals, Lent, refusals}
 use Rattle.meaning.proofs.AnswersLaws as AnswersLaws
-use Rattle.meaning.proofs.AnswersLaws.{lowest-hit, lowest-miss, lowest-clear, lowest-none, lowest-append, all-rise}
-use Rattle.meaning.proofs.CallLaws.{parts}
-use Rattle.meaning.proofs.SiteLaws.{site-read}
+use Rattle.meaning.proofs.AnswersLaws.{lowest-none, lowest-append, all-rise, lowest-front}
+use Rattle.meaning.proofs.CallLaws.{none-parts, parts-read}
 use Rattle.site.specs.Check.{layoutOf}
 use Rattle.site.specs.declared.Layout.{Layout}
 use Rattle.calls.specs.declared.Check.the-variants.{Passed, Refused}
@@ -30,12 +25,6 @@ use Rattle.routes.specs.Checks.{Gives, roomEnough, routeChecks, checksTo
 
 -- ---- the list
 
--- the checks up to 14, and the search's number behind them
-pub route-parts : (site : Site) (v : View) (room : Room) (tug : ℕ) (a : Node) (goal : ℕ)
-    → routeRefusals site v room tug a goal ≡ routeChecks site v room tug a goal ++ (18 if isNone (findRoute site (v .free) a goal) ∷ [])
-unfolding routeRefusals routeChecks roomEnough
-route-parts site v room tug a goal = refl
-
 pub all-parts : (file : List ℕ) (lent : Lent) (tug : ℕ) (a : Node) (goal : ℕ)
     → refusals file lent (listed (route tug a goal)) ≡ checksTo14 file lent tug a goal ++ (18 if isNone (findRoute (siteOf file) (bytesView (siteOf file) (lent .board) .free) a goal) ∷ [])
 unfolding refusals siteRefusals routeRefusals routeChecks roomEnough
@@ -44,9 +33,6 @@ all-parts file lent tug a goal = refl
 -- ---- 10: the states and the tick are named
 
 module _ (site : Site) (a : Node) (goal : ℕ) where
-  abbrev named : List Bool
-  named = ltb (a .state) (length (site .states)) ∷ leb (a .tick) (site .horizon) ∷ ltb goal (length (site .states)) ∷ []
-
   pub no-start : length (site .states) ≤ a .state → false ≡ startNamed site a goal
   unfolding startNamed every
   no-start h = sym (simp (le-ltb _ _ h))
@@ -59,20 +45,6 @@ module _ (site : Site) (a : Node) (goal : ℕ) where
   unfolding startNamed every
   goal-tells hs ht = sym (simp (lt-ltb _ _ hs, le-leb _ _ ht) (and-true _))
 
-  -- what is named is of the site
-  module _ (h : startNamed site a goal ≡ true) where
-    pub named-start : a .state < length (site .states)
-    unfolding startNamed
-    named-start = ltb-true _ _ (every-at named h 0)
-
-    pub named-tick : a .tick ≤ site .horizon
-    unfolding startNamed
-    named-tick = leb-true _ _ (every-at named h 1)
-
-    pub named-goal : goal < length (site .states)
-    unfolding startNamed
-    named-goal = ltb-true _ _ (every-at named h 2)
-
 -- ---- 14: the areas
 
 module _ (site : Site) (areas : Room) where
@@ -84,25 +56,12 @@ module _ (site : Site) (areas : Room) where
   unfolding roomEnough every
   words-tell h = sym (simp (le-leb _ _ h) (and-true _))
 
-pub words-small : (states horizon : ℕ) → states ≤ stateLimit → horizon ≤ horizonLimit → states * (horizon + 1) ≤ 256256
-words-small states horizon hs hh =
-    let top : states * (horizon + 1) ≤ 256 * (horizon + 1) = mul-le-mul-right (horizon + 1) hs in
-    omega arith
-
 -- ---- an accepted file
 
 pub gives : (l : Layout) (site : Site) → l ≡ layoutOf site → Gives l site
 gives l site e = record { states = sym (ap (λ (k : Layout). k .states) e); horizon = sym (ap (λ (k : Layout). k .horizon) e) }
 
 -- ---- numbers 1 to 7, and those after them
-
--- one list, and more behind it
-pub lowest-front : (xs ys : List Refusal) (n : ℕ) → lowest xs ≡ n → 1 ≤ n → lowest (xs ++ ys) ≡ n
-lowest-front [] ys n e some = absurd (let z : lowest [] ≡ 0 = lowest-clear [] tt in omega arith)
-lowest-front (x ∷ xs) ys n e some =
-    decide (x .applies)
-    (λ q. lowest-hit x (xs ++ ys) q ∙ sym (lowest-hit x xs q) ∙ e)
-    (λ q. lowest-miss x (xs ++ ys) q ∙ lowest-front xs ys n (sym (lowest-miss x xs q) ∙ e) some)
 
 -- an answer by the first of two lists, where it refuses
 pub front-stops : (l : Layout) (n : ℕ) (xs ys : List Refusal) → Refused n ≡ byNumber l (lowest xs) → Refused n ≡ byNumber l (lowest (xs ++ ys))
@@ -115,7 +74,7 @@ module _ (file : List ℕ) (lent : Lent) (passed : lowest (refusals file lent op
   open-passed = lowest-none (refusals file lent opening) (all-rise file lent opening) passed
 
   pub open-read : readSite file ≡ accepted (siteOf file)
-  open-read = site-read file (lowest-clear (siteRefusals file) (parts AnswersLaws.Passed file lent opening open-passed .of-site))
+  open-read = parts-read file lent opening (none-parts file lent opening passed)
 
   pub open-behind : (rs : List Refusal) → lowest (refusals file lent opening ++ rs) ≡ lowest rs
   open-behind rs = lowest-append (refusals file lent opening) rs open-passed

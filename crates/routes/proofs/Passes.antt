@@ -3,27 +3,27 @@
 use Prim.Native.Nat.{ℕ, zero, suc, _≤_, _<_}
 use native.Mathlib.Omega.{arith}
 use mathlib.Core.Path.{_≡_, refl, sym, ap, _∙_}
-use mathlib.Core.Option.{Option, none, some}
+use mathlib.Core.Option.{none, some}
 use mathlib.Core.List.{List, [], _∷_, _++_}
 use lib.ListN.{length}
 use Rattle.meaning.specs.Basics.{all, Each, isNone}
 use Rattle.meaning.specs.Answers.{Refusal, lowest, Clears, RiseFrom, accepted}
 use Rattle.meaning.specs.Site.{Site, siteOf, siteRefusals, readSite}
-use Rattle.meaning.specs.Board.{boardLength, edition, free}
+use Rattle.meaning.specs.Board.{boardLength, free}
 use Rattle.meaning.specs.WellFormed.{WellFormed}
 use Rattle.meaning.specs.Plan.{Node}
 use Rattle.meaning.specs.Reach.{Route, findRoute}
-use Rattle.meaning.specs.Calls.{PublicCall, route, opening, listed, bytesView, lightRoom, wordsNeeded, Lent, onBoard, withWordsZero, refusals, routeFound, grantedLight, grantedDone, acceptedDone, refusedDone, meant}
+use Rattle.meaning.specs.Calls.{PublicCall, route, opening, listed, bytesView, lightRoom, wordsNeeded, Lent, onBoard, withWordsZero, refusals, acceptedDone, refusedDone, meant}
 use Rattle.meaning.proofs.AnswersLaws as AnswersLaws
-use Rattle.meaning.proofs.CallLaws.{Parts, PassesTo14, passes-to-14, parts, board-sized, meant-number, meant-by, meant-accepted, refused-same, refused-18, search-found, search-none}
-use Rattle.meaning.proofs.SiteLaws.{site-read, read-well}
+use Rattle.meaning.proofs.CallLaws.{Parts, PassesTo14, passes-to-14, parts, board-sized, meant-number, meant-by, meant-accepted, refused-same, refused-18, search-found, search-none, named-start, named-tick, named-goal, parts-read}
+use Rattle.meaning.proofs.SiteLaws.{read-well}
 use Rattle.site.specs.Check.{layoutOf}
 use Rattle.site.specs.declared.Layout.{Layout}
 use Rattle.calls.specs.declared.Check.the-variants.{Passed, Refused}
 use Rattle.calls.specs.Checks.{checkBy}
 use Rattle.calls.proofs.Laws.{passed-number, refused-number}
-use Rattle.routes.specs.Checks.{routeLight, routeChecks, checksTo14}
-use Rattle.routes.proofs.Laws.{all-parts, lowest-front, named-start, named-tick, named-goal}
+use Rattle.routes.specs.Checks.{routeChecks, checksTo14}
+use Rattle.routes.proofs.Laws.{all-parts}
 
 -- checks that all passed, and one with a number above n behind them
 clears-behind : (n : ℕ) (xs : List Refusal) (r : Refusal) → n < r .number → Each AnswersLaws.Passed xs → Clears n (xs ++ (r ∷ []))
@@ -50,7 +50,7 @@ module _ (file : List ℕ) (lent : Lent) (tug : ℕ) (a : Node) (goal : ℕ) whe
     pub refused-lowest : lowest (refusals file lent call) ≡ n
     refused-lowest =
         let low = refused-number (layoutOf site) n (lowest checks) e in
-        ap lowest (all-parts file lent tug a goal) ∙ lowest-front checks _ n (low .0) (low .1)
+        ap lowest (all-parts file lent tug a goal) ∙ AnswersLaws.lowest-front checks _ n (low .0) (low .1)
 
     pub refused-range : (1 ≤ n) × (n ≤ 14)
     refused-range =
@@ -94,7 +94,7 @@ module _ (file : List ℕ) (lent : Lent) (tug : ℕ) (a : Node) (goal : ℕ) whe
     open-parts = parts AnswersLaws.Passed file (onBoard (lent .board)) opening open-part
 
     pub file-read : readSite file ≡ accepted site
-    file-read = site-read file (AnswersLaws.lowest-clear (siteRefusals file) (open-parts .of-site))
+    file-read = parts-read file (onBoard (lent .board)) opening open-parts
 
     pub site-well : WellFormed site
     site-well = read-well file site file-read
@@ -126,11 +126,6 @@ module _ (file : List ℕ) (lent : Lent) (tug : ℕ) (a : Node) (goal : ℕ) whe
 
       pub found-meant : meant file lent call ≡ acceptedDone site lent call
       found-meant = meant-accepted file lent call found-number
-
-      -- the light in full
-      pub found-light : meant file lent call ≡ grantedDone site lent (routeLight (edition (lent .board)) tug a goal r)
-      unfolding bytesView acceptedDone grantedLight
-      found-light = found-meant ∙ ap (λ (o : Option Route). grantedDone site lent (routeLight (edition (lent .board)) tug a goal (routeFound o))) found
 
     module _ (no-route : findRoute site (free site (lent .board)) a goal ≡ none) where
       pub none-number : meant file lent call .number ≡ 18

@@ -11,16 +11,11 @@ use Rattle.meaning.specs.Answers.{Refusal, _if_, accepted}
 use Rattle.meaning.specs.Site.{Site, standing, siteOf, readSite}
 use Rattle.meaning.specs.Board.{isTug}
 use Rattle.meaning.specs.Plan.{Node}
-use Rattle.meaning.specs.Reach.{Route}
-use Rattle.meaning.specs.Light.{Light}
 use Rattle.meaning.specs.Calls.{View, bytesView, Room, startNamed, lightRoom, wordsNeeded, opening, Lent, onBoard, roomOf, refusals}
 use Rattle.site.specs.Check.{layoutOf}
 use Rattle.site.specs.declared.Layout.{Layout}
 
 -- ---- the list
-
-abbrev pub nodeAt : ℕ → ℕ → Node
-nodeAt state tick = record { state = state; tick = tick }
 
 -- 14: the areas hold a light, and the words of the search
 unfoldable pub roomEnough : Site → Room → Bool
@@ -52,17 +47,3 @@ pub record Gives (l : Layout) (site : Site) : Type 0 where
 pub record Accepts (file : List ℕ) (l : Layout) : Type 0 where
   pub read : readSite file ≡ accepted (siteOf file)
   pub said : l ≡ layoutOf (siteOf file)
-
--- ---- the light of a granted route
-
-abbrev pub routeLight : ℕ → ℕ → Node → ℕ → Route → Light
-routeLight edition tug a goal r =
-    record {
-      edition = edition;
-      tug = tug;
-      start = a .state;
-      tick = a .tick;
-      goal = goal;
-      arrival = r .arrival;
-      steps = r .steps;
-    }

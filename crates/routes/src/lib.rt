@@ -9,12 +9,13 @@ ghost use Rattle.meaning.specs.Limits.{horizonLimit, stateLimit, header};
 ghost use Rattle.meaning.specs.Answers.{lowest};
 ghost use Rattle.meaning.specs.Site.{Site, siteOf};
 ghost use Rattle.meaning.specs.Calls.{startNamed, bytesView, lends, Room};
+ghost use Rattle.meaning.specs.Plan.{node};
 ghost use Rattle.calls.specs.Checks.{checkBy};
-ghost use Rattle.routes.specs.Checks.{Gives, Accepts, nodeAt, roomEnough, routeChecks, checksTo14};
+ghost use Rattle.routes.specs.Checks.{Gives, Accepts, roomEnough, routeChecks, checksTo14};
 
 // Are the start state, the start tick and the goal state of the site?
 fn start_named(l: Layout, start: u16, tick: u16, goal: u16) -> bool
-    ensures { λ r. ⌜ ((site : Site) → Gives l site → r ≡ startNamed site (nodeAt start tick) goal) ⌝ }
+    ensures { λ r. ⌜ ((site : Site) → Gives l site → r ≡ startNamed site (node start tick) goal) ⌝ }
 {
     if l.states <= (start as usize) {
         return false;
@@ -49,7 +50,7 @@ fn route_later(
     work_len: usize,
 ) -> u8
     requires { ⌜ Accepts (now file) l × (header ≤ length (now board)) ⌝ }
-    ensures { λ r. ⌜ ((areas : Room) → areas .out ≡ «out_len» → areas .words ≡ «work_len» → r ≡ lowest (routeChecks (siteOf (now (file .entry))) (bytesView (siteOf (now (file .entry))) (now (board .entry))) areas tug (nodeAt start tick) goal)) ⌝ }
+    ensures { λ r. ⌜ ((areas : Room) → areas .out ≡ «out_len» → areas .words ≡ «work_len» → r ≡ lowest (routeChecks (siteOf (now (file .entry))) (bytesView (siteOf (now (file .entry))) (now (board .entry))) areas tug (node start tick) goal)) ⌝ }
 {
     if !board::is_tug(tug) {
         return 9;
@@ -80,7 +81,7 @@ pub fn check_route(
     out_len: usize,
     work_len: usize,
 ) -> Check
-    ensures { λ r. ⌜ ((out words : List ℕ) → length out ≡ «out_len» → length words ≡ «work_len» → r ≡ checkBy (siteOf (now (file .entry))) (lowest (checksTo14 (now (file .entry)) (lends (now (board .entry)) out words) tug (nodeAt start tick) goal))) ⌝ }
+    ensures { λ r. ⌜ ((out words : List ℕ) → length out ≡ «out_len» → length words ≡ «work_len» → r ≡ checkBy (siteOf (now (file .entry))) (lowest (checksTo14 (now (file .entry)) (lends (now (board .entry)) out words) tug (node start tick) goal))) ⌝ }
 {
     match calls::check_board(file, board) {
         Check::Passed(l) => calls::by_number(

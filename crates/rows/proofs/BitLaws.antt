@@ -5,7 +5,7 @@ use native.Mathlib.Nat.{pow-suc, zero-add, suc-add, div-one, add-zero}
 use native.Mathlib.Numerals.{add-one}
 use native.Mathlib.Omega.{arith}
 use mathlib.Core.Path.{_≡_, refl, sym, ap, _∙_}
-use mathlib.Core.Bool.{Bool, true, false, _&&_, _||_, not, false≢true}
+use mathlib.Core.Bool.{Bool, true, false, _&&_, _||_, not, false≢true, or-false}
 use lib.Bits.{bitAnd, bitOr, bitXor, and-step, or-step, xor-step, and-shr, or-shr, xor-shr, shifted-even, shifted-half}
 use lib.Pow.{shr-shr, shl-shr, field, mod-mod-pow}
 use lib.Dec.{ltb}
@@ -59,9 +59,6 @@ half-and a b = and-shr a b 1
 half-or : (a b : ℕ) → bitOr a b / 2 ≡ bitOr (a / 2) (b / 2)
 half-or a b = or-shr a b 1
 
-half-xor : (a b : ℕ) → bitXor a b / 2 ≡ bitXor (a / 2) (b / 2)
-half-xor a b = xor-shr a b 1
-
 pub bit-and : (i a b : ℕ) → bit (bitAnd a b) i ≡ (bit a i && bit b i)
 unfolding bit
 bit-and zero a b = odd-and a b
@@ -109,10 +106,6 @@ bit-rem (suc n) (suc i) a h =
     rw e (bit-rem n i (a / 2) (omega arith))
 
 -- ---- the window of two words
-
-pub or-false : (b : Bool) → (b || false) ≡ b
-or-false true = refl
-or-false false = refl
 
 upper-low : (hi r i : ℕ) → r + i < 64 → bit (((hi * 2 ^ 1) % 2 ^ 64 * 2 ^ (63 - r)) % 2 ^ 64) i ≡ false
 upper-low hi r i h = bit-rem 64 i _ (omega arith) ∙ by (ltb i (63 - r)) refl

@@ -63,9 +63,6 @@ module _ (g : ℕ → ℕ → ℕ) (b : ℕ) where
       rw eq (map-before k (suc i) (set l (b + i) (g i (getD l (b + i) 0))) (b + i) (omega arith) ∙ getD-set-same l (b + i) _ 0 (omega arith)))
 
   -- the loop's turns, by what is left to do
-  pub map-start : (l : List ℕ) → mapRow g b (16 - 0) 0 l ≡ mapRow g b 16 0 l
-  map-start l = refl
-
   pub map-turn : (i : ℕ) (l : List ℕ) (w : List ℕ) → i < 16 → mapRow g b (16 - i) i l ≡ w → mapRow g b (16 - (i + 1)) (i + 1) (set l (b + i) (g i (getD l (b + i) 0))) ≡ w
   unfolding mapRow
   map-turn i l w h e =

@@ -5,7 +5,7 @@ use native.Mathlib.Nat.{add-zero}
 use native.Mathlib.Numerals.{add-one}
 use native.Mathlib.Omega.{arith}
 use mathlib.Core.Path.{_≡_, refl, sym, ap, ap₂, _∙_}
-use mathlib.Core.Bool.{Bool, _&&_, _||_}
+use mathlib.Core.Bool.{Bool, _&&_, _||_, or-false}
 use mathlib.Core.List.{List}
 use lib.Bits.{bitAnd, bitOr, bitXor, and-le-l, and-le-r}
 use lib.Dec.{ltb, eqb}
@@ -15,7 +15,7 @@ use borrow.Author.Tests.{ltb-true, ltb-false, eqb-true, eqb-false, eq-eqb, ne-eq
 use Rattle.meaning.proofs.BasicsLaws.{decide}
 use Rattle.rows.specs.Bits.{odd, bit, windowOf, runOf, fillOf}
 use Rattle.rows.specs.Rows.{at, has, Words, Grown, Changed, Met, pushed, waited, filled, seeded}
-use Rattle.rows.proofs.BitLaws.{bit-and, bit-or, bit-shr, bit-rem, bit-scaled, bit-scaled-low, bit-past, or-false, fill-first, fill-next}
+use Rattle.rows.proofs.BitLaws.{bit-and, bit-or, bit-shr, bit-rem, bit-scaled, bit-scaled-low, bit-past, fill-first, fill-next}
 use Rattle.rows.proofs.RowLaws.{zeros-at, zero-bit, mapRow, map-length, map-before, map-bit, map-turn, Putting, putting-turn, putting-end, window-at, other-row, this-row, has-is, grown-start, grown-turn}
 
 -- a loop that has changed row s word by word

@@ -16,13 +16,13 @@ use Rattle.meaning.specs.Board.{boardLength}
 use Rattle.meaning.specs.Calls.{opening, onBoard, refusals, Done, acceptedDone, meant}
 use Rattle.meaning.specs.Day.{dayBoard}
 use Rattle.meaning.proofs.AnswersLaws.{Passed, lowest-clear}
-use Rattle.meaning.proofs.SiteLaws.{site-read}
+use Rattle.meaning.proofs.SiteLaws.{site-read, read-well}
 use Rattle.meaning.proofs.CallLaws as CallLaws
 use Rattle.meaning.proofs.CheckLaws.{site-refused}
 use Rattle.site.specs.Check.{checkOf, layoutOf}
 use Rattle.site.specs.declared.Layout.{Layout}
 use Rattle.site.specs.declared.SiteCheck.the-variants as SiteCheck
-use Rattle.site.proofs.Accepted.{accepted-passed, accepted-layout, horizon-range, cells-range, refused-read}
+use Rattle.site.proofs.Accepted.{accepted-read, accepted-layout, refused-read}
 use Rattle.calls.proofs.Laws.{size-small}
 use Rattle.dispatch.specs.declared.Answer.the-variants as A
 use Rattle.dispatch.specs.Answers.{numberOf, answerOf}
@@ -37,11 +37,11 @@ module _ (file : List ℕ) (l : Layout) (e : SiteCheck.Accepted l ≡ checkOf (r
   said = accepted-layout file l e
 
   pub short : l .horizon ≤ 1000
-  short = rw said (horizon-range file (accepted-passed file l e) .1)
+  short = rw said (read-well file _ (accepted-read file l e) .horizon-range .1)
 
   pub small : l .cells * (l .horizon + 1) ≤ 256256
   small =
-      let few : l .cells ≤ 255 = rw said (cells-range file (accepted-passed file l e) .1) in
+      let few : l .cells ≤ 255 = rw said (read-well file _ (accepted-read file l e) .cells-range .1) in
       size-small (l .cells) (l .horizon) (omega arith) short
 
   board-size : boardLength (siteOf file) ≡ header + l .cells * (l .horizon + 1)
@@ -73,7 +73,7 @@ module _ (file board board′ : List ℕ) (same : lowest (siteRefusals file) ≡
 
 module _ (file board : List ℕ) (e : meant file (onBoard board) opening .number ≡ 0) where
   passed : CallLaws.Parts file (onBoard board) opening Passed
-  passed = CallLaws.parts Passed file (onBoard board) opening (CallLaws.accepted-passed file (onBoard board) opening e)
+  passed = CallLaws.accepted-parts file (onBoard board) opening e
 
   read : lowest (siteRefusals file) ≡ 0
   read = lowest-clear (siteRefusals file) (passed .of-site)

@@ -7,14 +7,16 @@ use mathlib.Core.Bool.{Bool, true, false, _&&_, not}
 use native.Mathlib.Omega.{arith}
 use native.Mathlib.Numerals.{add-one}
 use lib.ListN.{length, getD, take, drop, set, length-drop, length-map}
-use lib.Seq.{drop-drop, getD-drop, drop-at, take-add, length-take-le, getD-set-same, getD-set-other}
+use lib.Seq.{drop-drop, getD-drop, drop-at, take-add, length-take-le, getD-set-same, getD-set-other, drop-cons}
 use lib.Dec.{leb, ltb, eqb}
 use borrow.Author.Tests.{leb-true, eqb-true, eqb-false, ltb-true}
-use Rattle.meaning.specs.Limits.{motionLimit, sweepLimit, motionTag}
-use Rattle.meaning.specs.Basics.{all, within, u16At}
+use Rattle.meaning.specs.Limits.{motionLimit, sweepLimit}
+use Rattle.meaning.specs.Basics.{all, u16At}
 use Rattle.meaning.specs.Fields.{Field, listed}
 use Rattle.meaning.specs.Site.{Motion, Site, noMotion, siteOf, cellOf, stateCount, isMotion, sweepCount, motionsLaid, motionOf, sweepsOf, endsGood, sweepsGood, motionGood}
-use Rattle.meaning.proofs.BasicsLaws.{and-left, and-right, within-range}
+use Rattle.meaning.proofs.BasicsLaws.{and-left, and-right, all-head, all-tail}
+use Rattle.meaning.proofs.SiteFieldsLaws.{motion-parts}
+use Rattle.meaning.proofs.MotionLaws.{and-four}
 use Rattle.fields.specs.declared.Header.{Header}
 use Rattle.fields.specs.Places.{fieldsAt, fieldAt, Next, Whole}
 use Rattle.fields.proofs.Laws.{listed-end, next-is, value-length, value-byte, value-u16}
@@ -34,18 +36,13 @@ module _ {A : Type 0} (p : A → Bool) (d : A) where
   rest-none (x ∷ xs) zero h = absurd (omega arith)
   rest-none (x ∷ xs) (suc i) h = rest-none xs i (omega arith)
 
-  rest-first : (xs : List A) (i : ℕ) → i < length xs → drop i xs ≡ getD xs i d ∷ drop (suc i) xs
-  rest-first [] i h = absurd (omega arith)
-  rest-first (x ∷ xs) zero h = refl
-  rest-first (x ∷ xs) (suc i) h = rest-first xs i (omega arith)
-
   pub rest-hit : (xs : List A) (i : ℕ) → i < length xs → p (getD xs i d) ≡ true → all p (drop i xs) ≡ all p (drop (i + 1) xs)
   unfolding all
-  rest-hit xs i h e = rw (rest-first xs i h, e, add-one i)
+  rest-hit xs i h e = rw (drop-cons xs i d h, e, add-one i)
 
   pub rest-miss : (xs : List A) (i : ℕ) → i < length xs → p (getD xs i d) ≡ false → all p (drop i xs) ≡ false
   unfolding all
-  rest-miss xs i h e = rw (rest-first xs i h, e)
+  rest-miss xs i h e = rw (drop-cons xs i d h, e)
 
 -- ---- a motion by place
 
@@ -76,19 +73,13 @@ motion-sweeps file at n k h q e =
     ∙ rw (drop-drop 5 (at + 3) file))
 
 pub motion-here : (file : List ℕ) (at n : ℕ) → n ≡ u16At file (at + 1) → at + 3 + n ≤ length file → isMotion (fieldAt file at) ≡ true → MotionHere file at n
-unfolding isMotion motionOf
+unfolding motionOf
 motion-here file at n h q e =
-    let f = fieldAt file at in
-    let l = value-length file at n h q in
-    let t : (eqb (f .tag) motionTag && within 1 sweepLimit (sweepCount n)) && eqb n (5 + 3 * sweepCount n) ≡ true = rw l at e in
-    let u = and-left (eqb (f .tag) motionTag && within 1 sweepLimit (sweepCount n)) (eqb n (5 + 3 * sweepCount n)) t in
-    let s = eqb-true n (5 + 3 * sweepCount n) (and-right (eqb (f .tag) motionTag && within 1 sweepLimit (sweepCount n)) (eqb n (5 + 3 * sweepCount n)) t) in
-    let w = within-range 1 sweepLimit (sweepCount n) (and-right (eqb (f .tag) motionTag) (within 1 sweepLimit (sweepCount n)) u) in
-    let lo = w .0 in
+    let (_, lo, hi, s) = rw (value-length file at n h q) at (motion-parts (fieldAt file at) e) in
     let a : at + 3 + 0 ≡ at + 3 = omega arith in
     record {
       some-sweeps = lo;
-      few-sweeps = w .1;
+      few-sweeps = hi;
       size = s;
       from = value-u16 file at 0 (omega arith) ∙ ap (u16At file) a;
       to = value-u16 file at 2 (omega arith);
@@ -128,9 +119,7 @@ motion-test file site m r cells count s p q = rw (← s .from, ← s .to, ← s 
 
 pub ends-below : (n a b d : ℕ) → endsGood n a b d ≡ true → (a < n) × (b < n)
 unfolding endsGood
-ends-below n a b d e =
-    let both = and-left (ltb a n && ltb b n) (not (eqb a b)) (and-left (ltb a n && ltb b n && not (eqb a b)) (leb 1 d) e) in
-    (ltb-true a n (and-left (ltb a n) (ltb b n) both), ltb-true b n (and-right (ltb a n) (ltb b n) both))
+ends-below n a b d e = let (x, y, _, _) = and-four (ltb a n) (ltb b n) (not (eqb a b)) (leb 1 d) e in (ltb-true a n x, ltb-true b n y)
 
 -- ---- the motions from a place on
 
@@ -147,22 +136,11 @@ pub motions-none : (p : Motion → Bool) (file : List ℕ) (at : ℕ) → length
 unfolding all
 motions-none p file at h = rw (listed-end file at h)
 
-module _ (p : Field → Bool) (f : Field) (fs gs : List Field) (h : fs ≡ f ∷ gs) (e : all p fs ≡ true) where
-  both : (p f && all p gs) ≡ true
-  unfolding all
-  both = rw h at e
-
-  all-first : p f ≡ true
-  all-first = and-left (p f) (all p gs) both
-
-  all-rest : all p gs ≡ true
-  all-rest = and-right (p f) (all p gs) both
-
 pub motions-next : (file : List ℕ) (at r : ℕ) → Motions file at → Next file at r → Motions file r
-motions-next file at r m x = record { inside = x .inside; whole = x .whole; motions = all-rest isMotion _ _ _ (x .list) (m .motions) }
+motions-next file at r m x = record { inside = x .inside; whole = x .whole; motions = all-tail isMotion _ _ (rw (x .list) at (m .motions)) }
 
 pub motions-first : (file : List ℕ) (at : ℕ) → Motions file at → at < length file → isMotion (fieldAt file at) ≡ true
-motions-first file at m p = let x = next-is file at _ _ (m .whole) p refl refl in all-first isMotion _ _ _ (x .list) (m .motions)
+motions-first file at m p = let x = next-is file at _ _ (m .whole) p refl refl in all-head isMotion _ _ (rw (x .list) at (m .motions))
 
 -- where the motions of a file start
 pub laid-start : (file : List ℕ) (start : ℕ) → Laid file → start ≡ statePlace (length (siteOf file .states))

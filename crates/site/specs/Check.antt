@@ -1,6 +1,5 @@
 -- The answer of the check: its number, and for an accepted file what it says of the site.
 -- Assumes nothing.
-use Prim.Native.Nat.{ℕ}
 use lib.ListN.{length}
 use Rattle.meaning.specs.Answers.{Answer, accepted, refused}
 use Rattle.meaning.specs.Site.{Site}
@@ -8,11 +7,6 @@ use Rattle.layout.specs.Laid.{statePlace}
 use Rattle.site.specs.declared.Layout.{Layout}
 use Rattle.site.specs.declared.SiteCheck.{SiteCheck}
 use Rattle.site.specs.declared.SiteCheck.the-variants.{Accepted, Refused}
-
--- the number of an answer: 0 for an accepted file
-abbrev pub numberOf : SiteCheck → ℕ
-numberOf (Accepted l) = 0
-numberOf (Refused n) = n
 
 -- what is said of an accepted site: H, C, the counts, and where the motions start
 abbrev pub layoutOf : Site → Layout

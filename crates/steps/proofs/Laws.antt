@@ -8,12 +8,13 @@ use mathlib.Core.List.{List}
 use lib.ListN.{length}
 use lib.Dec.{leb, ltb}
 use Rattle.meaning.specs.Limits.{horizonLimit}
-use Rattle.meaning.specs.Basics.{all, allBelow}
-use Rattle.meaning.specs.Site.{Site, Sweep, Motion, siteOf, motionAt, cellOf, uses, handover, sweepGood, endsGood, sweepsGood, motionGood}
+use Rattle.meaning.specs.Basics.{all}
+use Rattle.meaning.specs.Site.{Sweep, siteOf, motionAt, cellOf, sweepGood}
 use Rattle.meaning.specs.Board.{Free}
 use Rattle.meaning.specs.Plan.{freeFromTo}
-use Rattle.meaning.proofs.BasicsLaws.{all-at, and-left, and-right}
-use Rattle.meaning.proofs.MotionLaws.{and-three, and-four}
+use Rattle.meaning.proofs.BasicsLaws.{all-at, each-all}
+use Rattle.meaning.proofs.MotionLaws.{and-three, Fits, true-fits, good-at, cell-known}
+use Rattle.meaning.proofs.SiteLaws.{read-well}
 use borrow.Author.Tests.{leb-true, ltb-true}
 use Rattle.layout.specs.Laid.{Laid}
 use Rattle.sweeps.specs.Places.{sweepAt, sweepsAt, UseIs}
@@ -22,8 +23,7 @@ use Rattle.sweeps.proofs.Laws.{sweeps-length, sweeps-at, all-none, all-hit, all
 use Rattle.site.specs.declared.Layout.{Layout}
 use Rattle.site.specs.declared.Move.{Move}
 use Rattle.site.specs.Motions.{Shows}
-use Rattle.site.proofs.Laws.{ends-below}
-use Rattle.site.proofs.Accepted.{read-passed, horizon-range, state-cell-below, motion-good-at}
+use Rattle.site.proofs.Accepted.{read-laid}
 use Rattle.board.specs.Runs.{Row}
 use Rattle.board.proofs.Uses.{row-on}
 use Rattle.steps.specs.Ready.{Ready, Sweeps, Swept}
@@ -41,16 +41,16 @@ pub record Known (file : List ℕ) (room : ℕ) (l : Layout) : Type 0 where
 
 pub known : {file : List ℕ} {room : ℕ} {l : Layout} → Ready file room l → Known file room l
 known {file} {room} {l} r =
-    let p = read-passed file (siteOf file) (r .read) .0 in
-    let short = horizon-range file p .1 in
+    let well = read-well file _ (r .read) in
+    let short = well .horizon-range .1 in
     let same : siteOf file .horizon ≡ l .horizon = ap (λ (x : Layout). x .horizon) (sym (r .layout)) in
     record {
-      laid = p .laid;
+      laid = read-laid file _ (r .read);
       short = short;
       horizon = same;
       states = ap (λ (x : Layout). x .states) (sym (r .layout));
       motions = ap (λ (x : Layout). x .motions) (sym (r .layout));
-      cell = state-cell-below file p;
+      cell = cell-known (siteOf file) well;
       row = λ cell tick hc ht. subst (λ (h : ℕ). Row room h cell tick) same (row-on (siteOf file) room cell tick (r .board) short hc ht);
     }
 
@@ -59,26 +59,17 @@ pub record Read (file : List ℕ) (m : Move) : Type 0 where
   pub sweeps : Sweeps file (m .first) (m .count) (m .span)
   pub to : m .to < length (siteOf file .states)
 
-motion-good : (site : Site) (m : Motion) → motionGood site m ≡ true
-    → (m .to < length (site .states)) × (all (sweepGood (site .cells) (m .span)) (m .sweeps) ≡ true)
-unfolding motionGood sweepsGood
-motion-good site m h =
-    let x = cellOf site (m .from) in
-    let y = cellOf site (m .to) in
-    let ends = endsGood (length (site .states)) (m .from) (m .to) (m .span) in
-    let rest = sweepsGood (site .cells) x y (m .span) (m .sweeps) in
-    let tests = and-four (all (sweepGood (site .cells) (m .span)) (m .sweeps)) (uses (m .sweeps) x 0) (uses (m .sweeps) y (m .span))
-    (allBelow (handover (m .sweeps)) (m .span)) (and-right ends rest h) in
-    (ends-below _ _ _ _ (and-left ends rest h) .1, tests .0)
-
 pub read-motion : {file : List ℕ} {room : ℕ} {l : Layout} {k : ℕ} {m : Move} → Ready file room l → k < length (siteOf file .motions)
     → Shows file (motionAt (siteOf file) k) m → Read file m
 read-motion {file} {k = k} {m = m} r h s =
-    let good = motion-good (siteOf file) (motionAt (siteOf file) k) (motion-good-at file (read-passed file (siteOf file) (r .read) .0) k h) in
-    let below = good .0 in
+    let site = siteOf file in
+    let x = motionAt site k in
+    let good = good-at site (read-well file site (r .read)) k h in
+    let below = good .to-below in
     let same = s .to in
+    let each = each-all (Fits (site .cells) (x .span)) (sweepGood (site .cells) (x .span)) (true-fits (site .cells) (x .span)) (x .sweeps) (good .sweeps-fit) in
     record {
-      sweeps = record { inside = s .inside; good = rw (s .sweeps, s .span) (good .1) };
+      sweeps = record { inside = s .inside; good = rw (s .sweeps, s .span) each };
       to = omega arith;
     }
 

@@ -2,22 +2,19 @@
 -- Assumes nothing.
 use Prim.Native.Nat.{ℕ, _+_, _≤_, _<_}
 use native.Mathlib.Omega.{arith}
-use mathlib.Core.Path.{_≡_, sym, _∙_}
-use mathlib.Core.Bool.{Bool, true, false, true≢false, and-true}
-use mathlib.Core.List.{List, [], _∷_}
+use mathlib.Core.Path.{_≡_}
+use mathlib.Core.Bool.{Bool, true, false, and-true}
+use mathlib.Core.List.{[], _∷_}
 use lib.Dec.{leb}
-use lib.ListN.{length, getD}
+use lib.ListN.{length}
 use borrow.Author.Tests.{le-leb, lt-leb, lt-ltb, le-ltb, eq-eqb, ne-eqb}
 use Rattle.meaning.specs.Basics.{every}
 use Rattle.meaning.specs.Site.{Site, cellOf, stateAt, motionAt}
 use Rattle.meaning.specs.Board.{Free}
 use Rattle.meaning.specs.Plan.{Node, wait, move, freeFromTo, sweepsFree, allowed}
-use Rattle.meaning.proofs.BasicsLaws.{every-at, decide}
+use Rattle.meaning.proofs.BasicsLaws.{every-fails}
 
 -- ---- tests in a row
-
-pub every-no : (tests : List Bool) (i : ℕ) → getD tests i true ≡ false → every tests ≡ false
-every-no tests i h = decide (every tests) (λ e. absurd (true≢false (sym (every-at tests e i) ∙ h))) (λ e. e)
 
 every-third : (w x y z : Bool) → w ≡ true → x ≡ true → z ≡ true → every (w ∷ x ∷ y ∷ z ∷ []) ≡ y
 unfolding every
@@ -33,15 +30,15 @@ module _ (site : Site) (f : Free) (a : Node) where
   module _ (n : ℕ) where
     pub wait-none : n ≡ 0 → allowed site f (wait n) a ≡ false
     unfolding allowed
-    wait-none h = every-no _ 0 (lt-leb 1 n (omega arith))
+    wait-none h = every-fails _ 0 (lt-leb 1 n (omega arith))
 
     pub wait-rolling : (stateAt site (a .state) .speed ≡ 0 → ⊥) → allowed site f (wait n) a ≡ false
     unfolding allowed
-    wait-rolling h = every-no _ 1 (ne-eqb _ _ h)
+    wait-rolling h = every-fails _ 1 (ne-eqb _ _ h)
 
     pub wait-late : (u h : ℕ) → u ≡ a .tick + n → site .horizon ≡ h → leb u h ≡ false → allowed site f (wait n) a ≡ false
     unfolding allowed
-    wait-late u h p q e = every-no _ 3 (same-leb _ u _ h false p q e)
+    wait-late u h p q e = every-fails _ 3 (same-leb _ u _ h false p q e)
 
     pub wait-is : (u h : ℕ) → (n ≡ 0 → ⊥) → stateAt site (a .state) .speed ≡ 0 → u ≡ a .tick + n → site .horizon ≡ h → leb u h ≡ true
         → allowed site f (wait n) a ≡ freeFromTo f (cellOf site (a .state)) (a .tick) (a .tick + n)
@@ -53,15 +50,15 @@ module _ (site : Site) (f : Free) (a : Node) where
   module _ (k : ℕ) where
     pub move-unknown : length (site .motions) ≤ k → allowed site f (move k) a ≡ false
     unfolding allowed
-    move-unknown h = every-no _ 0 (le-ltb _ _ h)
+    move-unknown h = every-fails _ 0 (le-ltb _ _ h)
 
     pub move-other : (motionAt site k .from ≡ a .state → ⊥) → allowed site f (move k) a ≡ false
     unfolding allowed
-    move-other h = every-no _ 1 (ne-eqb _ _ h)
+    move-other h = every-fails _ 1 (ne-eqb _ _ h)
 
     pub move-late : (u h : ℕ) → u ≡ a .tick + motionAt site k .span → site .horizon ≡ h → leb u h ≡ false → allowed site f (move k) a ≡ false
     unfolding allowed
-    move-late u h p q e = every-no _ 3 (same-leb _ u _ h false p q e)
+    move-late u h p q e = every-fails _ 3 (same-leb _ u _ h false p q e)
 
     pub move-is : (u h : ℕ) → k < length (site .motions) → motionAt site k .from ≡ a .state → u ≡ a .tick + motionAt site k .span
         → site .horizon ≡ h → leb u h ≡ true → allowed site f (move k) a ≡ sweepsFree f (motionAt site k .sweeps) (a .tick)

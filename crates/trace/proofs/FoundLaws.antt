@@ -2,24 +2,19 @@
 -- Assumes nothing.
 use Prim.Native.Nat.{ℕ, suc, _+_, _-_, _≤_}
 use native.Mathlib.Omega.{arith}
-use mathlib.Core.Path.{_≡_, sym, ap, _∙_}
+use mathlib.Core.Path.{_≡_}
 use mathlib.Core.Bool.{cond}
 use mathlib.Core.Option.{none, some}
 use mathlib.Core.List.{List, []}
 use borrow.Author.Tests.{le-leb, lt-leb}
 use lib.Dec.{leb}
-use lib.ListN.{length}
 use Rattle.meaning.specs.Site.{Site}
 use Rattle.meaning.specs.Board.{Free}
-use Rattle.meaning.specs.Plan.{Node}
+use Rattle.meaning.specs.Plan.{Node, node}
 use Rattle.meaning.specs.WellFormed.{WellFormed}
 use Rattle.meaning.specs.Reach.{rowsTo, trace, Route, tracedRoute, routeIn, findRoute}
-use Rattle.meaning.proofs.TraceLaws.{found-steps}
-use Rattle.reach.specs.Decoded.{node}
 use Rattle.back.specs.Words.{arrivalIn, Sets}
-use Rattle.write.specs.Codes.{stepsIn}
-use Rattle.write.proofs.CodeLaws.{length-steps}
-use Rattle.trace.specs.Turns.{Search, Found}
+use Rattle.trace.specs.Turns.{Found}
 
 -- ---- from what `back::arrival` ensures to what `trace_back` requires
 
@@ -47,12 +42,3 @@ module _ (site : Site) (f : Free) (start tick goal arrival horizon : ℕ) (same 
       n k st mv fr al re tick goal arrival
   arrival-found n k st mv sw fr al re well sets late h =
       record { well = well; sets = sets; found = route-there h; on-tick = omega arith }
-
--- ---- the steps fit
-
-pub count-fits : (x : Search) (n k : ℕ) (st mv fr al re : List ℕ) (tick goal arrival : ℕ) (path : List ℕ) (count : ℕ)
-    → Found x n k st mv fr al re tick goal arrival → stepsIn path count ≡ x .route .steps → count ≤ x .site .horizon
-count-fits x n k st mv fr al re tick goal arrival path count h e =
-    let (laid, named, late, in-time) = found-steps (x .site) (h .well) (x .free) (node (x .start) tick) goal (x .route) (h .found) in
-    let many : count ≡ length (x .route .steps) = sym (length-steps path count) ∙ ap length e in
-    omega arith

@@ -7,13 +7,13 @@ use mathlib.Core.List.{List, [], _∷_}
 use lib.ListN.{length}
 use Rattle.meaning.specs.Site.{Site, motionAt}
 use Rattle.meaning.specs.Board.{Free}
-use Rattle.meaning.specs.Plan.{Step, wait, move}
+use Rattle.meaning.specs.Plan.{Step, wait, move, node}
 use Rattle.meaning.specs.WellFormed.{WellFormed}
 use Rattle.meaning.specs.Reach.{reachWord, waitOne}
 use Rattle.meaning.proofs.ReachLaws.{Arrives, found-arrives}
 use Rattle.meaning.proofs.TraceLaws.{found-steps}
 use Rattle.rounds.specs.Arrays.{fromAt, spanAt}
-use Rattle.reach.specs.Decoded.{Decoded, node}
+use Rattle.reach.specs.Decoded.{Decoded}
 use Rattle.back.specs.Words.{Sets}
 use Rattle.trace.specs.Turns.{waitInFront, Search, Found}
 use Rattle.trace.proofs.TurnLaws.{ByMotion, said-motion, Rest, rest-wait, rest-move, rest-done}

@@ -1,18 +1,18 @@
 -- The walk back, one turn at a time: tracing the rest in front of the steps so far gives the whole.
 -- Assumes nothing.
-use Prim.Native.Nat.{ℕ, zero, suc, _-_, _≤_, _<_}
+use Prim.Native.Nat.{ℕ, suc, _-_, _≤_, _<_}
 use native.Mathlib.Omega.{arith}
 use mathlib.Core.Path.{_≡_, refl, sym, ap, _∙_}
-use mathlib.Core.Bool.{true, false≢true}
+use mathlib.Core.Bool.{true}
 use mathlib.Core.List.{List, _∷_}
 use lib.ListN.{length}
-use Rattle.meaning.specs.Site.{Site, noMotion, motionAt}
+use Rattle.meaning.specs.Site.{Site, motionAt}
 use Rattle.meaning.specs.Board.{Free}
 use Rattle.meaning.specs.Plan.{Step, move, Node}
-use Rattle.meaning.specs.WellFormed.{GoodMotion, WellFormed}
+use Rattle.meaning.specs.WellFormed.{WellFormed}
 use Rattle.meaning.specs.Reach.{rowsTo, reachWord, reached, waitOne, trace}
-use Rattle.meaning.proofs.BasicsLaws.{each-at}
-use Rattle.meaning.proofs.ReachLaws.{Came, at-start, by-wait, by-move, came, move-known, trace-start, trace-wait, trace-move, word-row}
+use Rattle.meaning.proofs.ReachLaws.{Came, at-start, by-wait, by-move, came-here, move-known, trace-start, trace-wait, trace-move, word-row}
+use Rattle.meaning.proofs.MotionLaws.{good-at}
 
 -- ---- what a word says
 
@@ -39,7 +39,7 @@ module _ (site : Site) (well : WellFormed site) (f : Free) (a : Node) where
   came-motion (by-wait r ok) pos other = absurd (other refl)
   came-motion (by-move {k = k} m j same-to same-tick r ok no-wait lowest) pos other =
       let known : m < length (site .motions) = move-known site f m _ ok in
-      let good : GoodMotion site (motionAt site m) = each-at (GoodMotion site) (site .motions) noMotion (well .motions-good) m known in
+      let good = good-at site well m known in
       let same : suc k - motionAt site m .span ≡ j = omega arith in
       record {
         number = m;
@@ -51,19 +51,11 @@ module _ (site : Site) (well : WellFormed site) (f : Free) (a : Node) where
         before = rw same r;
       }
 
-  -- a reached pair has a word, which says how it was reached
-  came-here : (k s : ℕ) → reached site f a k s ≡ true → Came site f a k s (reachWord site f a k s)
-  came-here k s r = by-word (reachWord site f a k s) refl
-    where
-      by-word : (w : ℕ) → reachWord site f a k s ≡ w → Came site f a k s (reachWord site f a k s)
-      by-word zero e = absurd (false≢true (rw e at r))
-      by-word (suc w) e = rw e (came site well f a k s w e)
-
   pub said-wait : (k s : ℕ) → reached site f a k s ≡ true → reachWord site f a k s ≡ 2 → (1 ≤ k) × (reached site f a (k - 1) s ≡ true)
-  said-wait k s r e = came-wait (came-here k s r) e
+  said-wait k s r e = came-wait (came-here site well f a k s r) e
 
   pub said-motion : (k s w : ℕ) → reached site f a k s ≡ true → w ≡ reachWord site f a k s → 1 ≤ k → (w ≡ 2 → ⊥) → ByMotion k w
-  said-motion k s w r e pos other = rw e (came-motion (came-here k s r) pos (λ two. other (e ∙ two)))
+  said-motion k s w r e pos other = rw e (came-motion (came-here site well f a k s r) pos (λ two. other (e ∙ two)))
 
   -- ---- a turn
 
@@ -112,5 +104,5 @@ module _ (site : Site) (well : WellFormed site) (f : Free) (a : Node) where
 
     pub rest-done : {k s : ℕ} {ps : List Step} → Rest k s ps → k ≡ 0 → ps ≡ whole
     rest-done {k} {s} {ps} r e =
-        sym (trace-start site (rowsTo site f a n) n (r .fuel - 1) k s ps (word-row site well f a n k s (r .early) ∙ came-start (came-here k s (r .here)) e))
+        sym (trace-start site (rowsTo site f a n) n (r .fuel - 1) k s ps (word-row site well f a n k s (r .early) ∙ came-start (came-here site well f a k s (r .here)) e))
         ∙ fueled r

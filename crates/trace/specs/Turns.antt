@@ -6,10 +6,9 @@ use mathlib.Core.Option.{some}
 use mathlib.Core.List.{List, [], _∷_}
 use Rattle.meaning.specs.Site.{Site}
 use Rattle.meaning.specs.Board.{Free}
-use Rattle.meaning.specs.Plan.{Step, wait, move}
+use Rattle.meaning.specs.Plan.{Step, wait, move, node}
 use Rattle.meaning.specs.WellFormed.{WellFormed}
 use Rattle.meaning.specs.Reach.{Route, findRoute}
-use Rattle.reach.specs.Decoded.{node}
 use Rattle.back.specs.Words.{Sets}
 
 -- the ticks of a wait in front

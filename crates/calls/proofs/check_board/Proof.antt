@@ -7,10 +7,11 @@ use borrow.Author.Needs.{needs}
 use Rattle.meaning.specs.Limits.{header}
 use Rattle.meaning.specs.Site.{siteOf, readSite}
 use Rattle.meaning.specs.Board.{boardLength}
+use Rattle.meaning.proofs.SiteLaws.{read-well}
 use Rattle.site.specs.Check.{checkOf, layoutOf}
 use Rattle.site.specs.declared.Layout.{Layout}
 use Rattle.site.specs.declared.SiteCheck.the-variants as SiteCheck
-use Rattle.site.proofs.Accepted.{accepted-passed, accepted-layout, horizon-range}
+use Rattle.site.proofs.Accepted.{accepted-read, accepted-layout}
 use Rattle.calls.proofs.Laws.{site-stops, size-stops, size-passes}
 use Rattle.calls.proofs.check_board.Statement.{statement}
 use Rattle.calls.proofs.check_board.Tie as tie
@@ -39,7 +40,7 @@ board-length-requires : tie.Need-board-length-requires
 board-length-requires c κs =
     let f = start (c .before) .args .file .now in
     let same : c .before .l .given .0 .0 .horizon ≡ siteOf f .horizon = ap (λ (l : Layout). l .horizon) (said (c .before)) in
-    let short = horizon-range f (accepted-passed f _ (accepted (c .before))) .1 in
+    let short = read-well f _ (accepted-read f _ (accepted (c .before))) .horizon-range .1 in
     omega arith
 
 returns : tie.Need-returns

@@ -4,10 +4,9 @@ use mathlib.Core.Path.{_≡_, sym, _∙_}
 use borrow.Author.Needs.{needs}
 use Rattle.meaning.specs.Answers.{lowest}
 use Rattle.meaning.specs.Site.{siteOf}
-use Rattle.meaning.specs.Calls.{opening, listed, close, refusals}
+use Rattle.meaning.specs.Calls.{opening, listed, close, refusals, onBoard}
 use Rattle.calls.specs.declared.Check.the-variants.{Passed}
 use Rattle.calls.specs.Checks.{checkBy}
-use Rattle.meaning.specs.Calls.{onBoard}
 use Rattle.calls.proofs.Laws.{as-board, past-board}
 use Rattle.calls.proofs.Passes.{board-sizes, site-says}
 use Rattle.calls.proofs.check_close.Statement.{statement}

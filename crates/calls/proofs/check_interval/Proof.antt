@@ -5,10 +5,9 @@ use mathlib.Core.List.{[]}
 use borrow.Author.Needs.{needs}
 use Rattle.meaning.specs.Answers.{lowest}
 use Rattle.meaning.specs.Site.{siteOf}
-use Rattle.meaning.specs.Calls.{opening, interval, refusals, roomOf}
+use Rattle.meaning.specs.Calls.{opening, interval, refusals, roomOf, lends, onBoard}
 use Rattle.calls.specs.declared.Check.the-variants.{Passed}
 use Rattle.calls.specs.Checks.{checkBy}
-use Rattle.meaning.specs.Calls.{lends, onBoard}
 use Rattle.calls.proofs.Laws.{as-board, past-board}
 use Rattle.calls.proofs.Passes.{board-sizes, site-says}
 use Rattle.calls.proofs.check_interval.Statement.{statement}

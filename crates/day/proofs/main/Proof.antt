@@ -1,3 +1,5 @@
+-- `day::main` meets its contract: the areas are as long as the turns ask, and the board is the part that was opened.
+-- Assumes nothing.
 use Prim.Native.Nat.{_≤_}
 use native.Mathlib.Omega.{arith}
 use mathlib.Core.Path.{refl, sym}
@@ -7,12 +9,6 @@ use Rattle.meaning.specs.Limits.{header}
 use borrow.Author.Needs.{needs}
 use Rattle.day.proofs.main.Statement.{statement}
 use Rattle.day.proofs.main.Tie as tie
-use Rattle.day.proofs.main.Reads as reads
-use Rattle.day.proofs.main.Lts as lts
-use Rattle.day.proofs.load.Reads as load-reads
-use Rattle.day.proofs.refuse.Reads as refuse-reads
-use Rattle.day.proofs.run.Reads as run-reads
-use Rattle.script.proofs.start.Reads as start-reads
 
 slice-aggregate-load : tie.Need-slice-aggregate-load
 slice-aggregate-load c = search needs

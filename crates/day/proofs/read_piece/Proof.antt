@@ -1,3 +1,5 @@
+-- `day::read_piece` meets its contract: a header and a value stand within the buffer.
+-- Assumes nothing.
 use Prim.Native.Nat.{ℕ, _+_, _-_, _≤_}
 use native.Mathlib.Omega.{arith}
 use mathlib.Core.Path.{sym}
@@ -11,10 +13,6 @@ use native.Mathlib.Omega.{arith}
 use borrow.Author.Needs.{needs}
 use Rattle.day.proofs.read_piece.Statement.{statement}
 use Rattle.day.proofs.read_piece.Tie as tie
-use Rattle.day.proofs.read_piece.Reads as reads
-use Rattle.day.proofs.read_piece.Lts as lts
-use Rattle.io.proofs.read_full.Reads as read-full-reads
-use Rattle.orders.proofs.wanted.Reads as wanted-reads
 
 slice-relend-prefix-read-full : tie.Need-slice-relend-prefix-read-full
 slice-relend-prefix-read-full c = search needs

@@ -1,3 +1,5 @@
+-- `day::run` meets its contract: the areas keep their lengths, and the number of turns falls.
+-- Assumes nothing.
 use Prim.Native.Nat.{_≤_}
 use native.Mathlib.Omega.{arith}
 use mathlib.Core.Path.{_≡_}
@@ -8,9 +10,6 @@ use borrow.Author.Needs.{needs}
 use native.Mathlib.Omega.{arith}
 use Rattle.day.proofs.run.Statement.{statement}
 use Rattle.day.proofs.run.Tie as tie
-use Rattle.day.proofs.run.Reads as reads
-use Rattle.day.proofs.run.Lts as lts
-use Rattle.day.proofs.turn.Reads as turn-reads
 
 abbrev Inv-loop : tie.InvT-loop
 Inv-loop file board₀ out₀ words₀ light₀ going₀ turns₀ board out words light going turns =

@@ -1,12 +1,8 @@
+-- `day::turn` meets its contract: what the turn asks of the areas is asked here too.
+-- Assumes nothing.
 use borrow.Author.Needs.{needs}
-use native.Mathlib.Omega.{arith}
 use Rattle.day.proofs.turn.Statement.{statement}
 use Rattle.day.proofs.turn.Tie as tie
-use Rattle.day.proofs.turn.Reads as reads
-use Rattle.day.proofs.turn.Lts as lts
-use Rattle.day.proofs.read_piece.Reads as read-piece-reads
-use Rattle.io.proofs.write_all.Reads as write-all-reads
-use Rattle.script.proofs.turn.Reads as turn-reads
 
 slice-aggregate-read-piece : tie.Need-slice-aggregate-read-piece
 slice-aggregate-read-piece c = search needs

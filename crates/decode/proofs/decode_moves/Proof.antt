@@ -5,9 +5,10 @@ use mathlib.Core.Path.{_≡_, refl, sym, ap, _∙_, subst}
 use mathlib.Core.List.{List}
 use lib.ListN.{length}
 use Rattle.site.proofs.Laws.{Reached, reached-first, reached-next, reached-end, reached-more, reached-place}
+use Rattle.site.proofs.Accepted.{read-laid}
 use Rattle.decode.specs.Decodes.{Held, moveAt}
 use Rattle.decode.proofs.Laws.{motions-more, stored-length}
-use Rattle.decode.proofs.Uses.{well, passed, walk-shows, walk-few, walk-small}
+use Rattle.decode.proofs.Uses.{well, walk-shows, walk-few, walk-small}
 use native.Mathlib.Omega.{arith}
 use Rattle.decode.proofs.decode_moves.Statement.{statement}
 use Rattle.decode.proofs.decode_moves.Tie as tie
@@ -23,7 +24,7 @@ loop-holds c =
     let a = c .before .args in
     let f = a .file .now in
     let p = c .before .pre in
-    (reached-first f (a .start) (passed f (p .0) .laid) (p .1), refl, λ k q. absurd (omega arith))
+    (reached-first f (a .start) (read-laid f _ (p .0)) (p .1), refl, λ k q. absurd (omega arith))
 
 read-motion-requires : tie.Need-read-motion-requires Inv-loop μ-loop
 read-motion-requires c κs =

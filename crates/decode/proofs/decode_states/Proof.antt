@@ -4,10 +4,11 @@ use Prim.Native.Nat.{ℕ, _+_, _*_, _-_, _≤_, _<_}
 use mathlib.Core.Path.{_≡_, refl, sym, ap, _∙_, subst}
 use mathlib.Core.List.{List}
 use lib.ListN.{length}
+use Rattle.site.proofs.Accepted.{read-laid}
 use Rattle.rounds.specs.Arrays.{cellAt, speedAt}
 use Rattle.decode.specs.Decodes.{StateHeld}
 use Rattle.decode.proofs.Laws.{states-more, two-length}
-use Rattle.decode.proofs.Uses.{well, passed}
+use Rattle.decode.proofs.Uses.{well}
 use native.Mathlib.Omega.{arith}
 use Rattle.decode.proofs.decode_states.Statement.{statement}
 use Rattle.decode.proofs.decode_states.Tie as tie
@@ -25,12 +26,12 @@ loop-holds c = (omega arith, refl, λ k q. absurd (omega arith))
 state-cell-requires : tie.Need-state-cell-requires Inv-loop μ-loop
 state-cell-requires c κs =
     let b = c .before .before .before in
-    (passed (b .args .file .now) (b .pre .0) .laid, omega arith)
+    (read-laid (b .args .file .now) _ (b .pre .0), omega arith)
 
 state-speed-requires : tie.Need-state-speed-requires Inv-loop μ-loop
 state-speed-requires c κs =
     let b = c .before .before .before .before in
-    (passed (b .args .file .now) (b .pre .0) .laid, omega arith)
+    (read-laid (b .args .file .now) _ (b .pre .0), omega arith)
 
 put-state-requires : tie.Need-put-state-requires Inv-loop μ-loop
 put-state-requires c κs =

@@ -6,9 +6,10 @@ use borrow.Author.Needs.{needs}
 use Rattle.meaning.specs.Answers.{lowest}
 use Rattle.meaning.specs.Site.{siteOf}
 use Rattle.meaning.specs.Calls.{lends}
+use Rattle.meaning.specs.Plan.{node}
 use Rattle.calls.specs.declared.Check.the-variants.{Passed}
 use Rattle.calls.specs.Checks.{checkBy}
-use Rattle.routes.specs.Checks.{nodeAt, checksTo14}
+use Rattle.routes.specs.Checks.{checksTo14}
 use Rattle.dispatch.proofs.RouteLaws.{route-refused, route-states, route-asked, route-room, route-words, horizon-small, words-few, route-granted, route-none}
 use Rattle.dispatch.proofs.route.Statement.{statement}
 use Rattle.dispatch.proofs.route.Tie as tie
@@ -19,7 +20,7 @@ start c = c .before .before .before .before .before .before .before
 
 passes : (c : tie.After-l) → let a = start c .args in
     Passed (c .l .given .0 .0)
-    ≡ checkBy (siteOf (a .file .now)) (lowest (checksTo14 (a .file .now) (lends (a .board .now) (a .out .now) (a .work .now)) (a .tug) (nodeAt (a .start) (a .tick)) (a .goal)))
+    ≡ checkBy (siteOf (a .file .now)) (lowest (checksTo14 (a .file .now) (lends (a .board .now) (a .out .now) (a .work .now)) (a .tug) (node (a .start) (a .tick)) (a .goal)))
 passes c = sym (c .l .given .1) ∙ c .before .before .check-route .ensures (start c .args .out .now) (start c .args .work .now) refl refl
 
 check-route-requires : tie.Need-check-route-requires

@@ -11,9 +11,6 @@ use Rattle.fields.proofs.Laws.{listed-end}
 use native.Mathlib.Omega.{arith}
 use Rattle.fields.proofs.count_fields.Statement.{statement}
 use Rattle.fields.proofs.count_fields.Tie as tie
-use Rattle.fields.proofs.count_fields.Reads as reads
-use Rattle.fields.proofs.count_fields.Lts as lts
-use Rattle.fields.proofs.next_field.Reads as next-field-reads
 
 abbrev Inv-loop : tie.InvT-loop
 Inv-loop s start at₀ n₀ at n =

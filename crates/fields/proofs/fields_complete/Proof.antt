@@ -10,9 +10,6 @@ use borrow.Author.Needs.{needs}
 use native.Mathlib.Omega.{arith}
 use Rattle.fields.proofs.fields_complete.Statement.{statement}
 use Rattle.fields.proofs.fields_complete.Tie as tie
-use Rattle.fields.proofs.fields_complete.Reads as reads
-use Rattle.fields.proofs.fields_complete.Lts as lts
-use Rattle.fields.proofs.read_item.Reads as read-item-reads
 
 abbrev Inv-loop : tie.InvT-loop
 Inv-loop s at₀ at = (at ≤ length s) × (complete (fieldsAt s at) ≡ complete (fields s))

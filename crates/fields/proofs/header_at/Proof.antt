@@ -7,10 +7,6 @@ use native.Mathlib.Omega.{arith}
 use borrow.Author.Needs.{needs}
 use Rattle.fields.proofs.header_at.Statement.{statement}
 use Rattle.fields.proofs.header_at.Tie as tie
-use Rattle.fields.proofs.header_at.Reads as reads
-use Rattle.fields.proofs.header_at.Lts as lts
-use Rattle.fields.proofs.no_field.Reads as no-field-reads
-use Rattle.fields.proofs.read_item.Reads as read-item-reads
 
 read-item-requires : tie.Need-read-item-requires
 read-item-requires c κs = search needs

@@ -6,9 +6,6 @@ use native.Mathlib.Omega.{arith}
 use borrow.Author.Needs.{needs}
 use Rattle.fields.proofs.item_at.Statement.{statement}
 use Rattle.fields.proofs.item_at.Tie as tie
-use Rattle.fields.proofs.item_at.Reads as reads
-use Rattle.fields.proofs.item_at.Lts as lts
-use Rattle.fields.proofs.number_at.Reads as number-at-reads
 
 returns : tie.Need-returns
 returns c = sym (item-end (c .before .before .args .s .now) (c .before .before .args .at) (omega arith))

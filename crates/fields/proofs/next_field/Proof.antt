@@ -4,9 +4,6 @@ use Rattle.fields.proofs.Laws.{whole-next}
 use borrow.Author.Needs.{needs}
 use Rattle.fields.proofs.next_field.Statement.{statement}
 use Rattle.fields.proofs.next_field.Tie as tie
-use Rattle.fields.proofs.next_field.Reads as reads
-use Rattle.fields.proofs.next_field.Lts as lts
-use Rattle.fields.proofs.header_at.Reads as header-at-reads
 
 header-at-requires : tie.Need-header-at-requires
 header-at-requires c κs = search needs

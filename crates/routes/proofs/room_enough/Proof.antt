@@ -7,7 +7,8 @@ use borrow.Author.Needs.{needs}
 use lib.Dec.{leb}
 use lib.ListN.{length}
 use Rattle.meaning.specs.Calls.{wordsNeeded}
-use Rattle.routes.proofs.Laws.{out-short, words-tell, words-small}
+use Rattle.routes.proofs.Laws.{out-short, words-tell}
+use Rattle.calls.proofs.Laws.{size-small}
 use Rattle.routes.proofs.room_enough.Statement.{statement}
 use Rattle.routes.proofs.room_enough.Tie as tie
 
@@ -26,7 +27,7 @@ add-result c = search needs
 mul-result : tie.Need-mul-result
 mul-result c =
     let a = c .before .before .before .before .args in
-    omega (arith, words-small (a .l .states) (a .l .horizon) (omega arith) (omega arith))
+    omega (arith, size-small (a .l .states) (a .l .horizon) (omega arith) (omega arith))
 
 returns-2 : tie.Need-returns-2
 returns-2 c = λ site areas says out words.

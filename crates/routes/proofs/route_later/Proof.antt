@@ -8,11 +8,15 @@ use borrow.Author.Tests.{not-false, eq-eqb, ne-eqb}
 use Rattle.meaning.specs.Site.{Site, siteOf, standing}
 use Rattle.meaning.specs.Board.{isTug, stands}
 use Rattle.meaning.specs.Calls.{startNamed, bytesView}
+use Rattle.meaning.specs.WellFormed.{WellFormed}
 use Rattle.meaning.proofs.CheckLaws.{hit, miss, none-left}
-use Rattle.site.proofs.Accepted.{Passed, read-passed, horizon-range, states-range}
+use Rattle.meaning.proofs.SiteLaws.{read-well}
+use Rattle.meaning.proofs.CallLaws.{named-goal}
+use Rattle.meaning.specs.Plan.{node}
+use Rattle.site.proofs.Accepted.{read-laid}
 use Rattle.calls.proofs.Laws.{told}
-use Rattle.routes.specs.Checks.{Gives, nodeAt, routeChecks}
-use Rattle.routes.proofs.Laws.{gives, named-goal}
+use Rattle.routes.specs.Checks.{Gives, routeChecks}
+use Rattle.routes.proofs.Laws.{gives}
 use Rattle.routes.proofs.route_later.Statement.{statement}
 use Rattle.routes.proofs.route_later.Tie as tie
 
@@ -28,17 +32,17 @@ module _ (c : tie.Else1) where
   says : Gives (start c .args .l) site
   says = gives _ _ (start c .pre .0 .said)
 
-  good : Passed (start c .args .file .now)
-  good = read-passed _ _ (start c .pre .0 .read) .0
+  well : WellFormed site
+  well = read-well _ _ (start c .pre .0 .read)
 
   behind-9 : not (isTug (start c .args .tug)) ≡ false
   behind-9 = told (c .before .is-tug .ensures) (c .if1 .left)
 
 module _ (c : tie.Else2) where
-  named : startNamed (site (c .before .before)) (nodeAt (start (c .before .before) .args .start) (start (c .before .before) .args .tick)) (start (c .before .before) .args .goal) ≡ true
+  named : startNamed (site (c .before .before)) (node (start (c .before .before) .args .start) (start (c .before .before) .args .tick)) (start (c .before .before) .args .goal) ≡ true
   named = sym (c .before .start-named .ensures _ (says (c .before .before))) ∙ not-false _ (c .if2 .left)
 
-  behind-10 : not (startNamed (site (c .before .before)) (nodeAt (start (c .before .before) .args .start) (start (c .before .before) .args .tick)) (start (c .before .before) .args .goal)) ≡ false
+  behind-10 : not (startNamed (site (c .before .before)) (node (start (c .before .before) .args .start) (start (c .before .before) .args .tick)) (start (c .before .before) .args .goal)) ≡ false
   behind-10 = ap not named
 
 behind-11 : (c : tie.Else3) → not (standing (site (c .before .before .before .before)) (start (c .before .before .before .before) .args .goal)) ≡ false
@@ -66,7 +70,7 @@ returns-2 c = λ areas out words.
     miss _ _ _ _ (behind-9 at-9) (hit 10 _ _ (told (c .before .start-named .ensures _ (says at-9)) (c .if2 .taken)))
 
 state-speed-requires : tie.Need-state-speed-requires
-state-speed-requires c κs = (good (c .before .before) .laid, named-goal _ _ _ (named c))
+state-speed-requires c κs = (read-laid _ _ (start (c .before .before) .pre .0 .read), named-goal _ _ _ (named c))
 
 returns-3 : tie.Need-returns-3
 unfolding routeChecks bytesView
@@ -91,8 +95,8 @@ room-enough-requires : tie.Need-room-enough-requires
 room-enough-requires c κs =
     let at-9 = c .before .before .before .before .before .before in
     let l = says at-9 in
-    let s = states-range _ (good at-9) .1 in
-    let h = horizon-range _ (good at-9) .1 in
+    let s = well at-9 .states-range .1 in
+    let h = well at-9 .horizon-range .1 in
     (omega arith, omega arith)
 
 returns-5 : tie.Need-returns-5

@@ -6,7 +6,7 @@ use mathlib.Core.Bool.{true, false}
 use borrow.Author.Tests.{not-true, not-false}
 use Rattle.meaning.specs.Basics.{all}
 use Rattle.meaning.specs.Site.{siteOf, cellGood, motionGood}
-use Rattle.layout.proofs.Laws.{laid-ranges}
+use Rattle.layout.proofs.Laws.{states-few}
 use Rattle.site.proofs.Numbers.{number-5, number-6, number-0, count-is, motions-start, accepted-is}
 use native.Mathlib.Omega.{arith}
 use Rattle.site.proofs.check_values.Statement.{statement}
@@ -19,7 +19,7 @@ state-place-requires c κs =
     let f = a .file .now in
     let h = a .head in
     let e = p .2 .states in
-    let r = laid-ranges f (p .1) .states .1 in
+    let r = states-few f (p .1) in
     omega arith
 
 states-good-requires : tie.Need-states-good-requires
