@@ -2,8 +2,8 @@
 -- Assumes nothing.
 use Prim.Native.Nat.{ℕ, suc, _+_, _*_, _-_, _<_, _≤_}
 use native.Mathlib.Omega.{arith}
-use mathlib.Core.Path.{_≡_, sym, ap, ap₂, _∙_}
-use mathlib.Core.Bool.{Bool, true, false, cond, _&&_, and-true}
+use mathlib.Core.Path.{_≡_, refl, sym, ap, ap₂, _∙_}
+use mathlib.Core.Bool.{Bool, true, false, cond, _&&_, _||_, and-true}
 use mathlib.Core.List.{List, [], _∷_, _++_, map, append-nil}
 use borrow.Author.Tests.{lt-ltb, le-leb}
 use lib.Dec.{eqb}
@@ -14,7 +14,6 @@ use Rattle.meaning.specs.Limits.{header}
 use Rattle.meaning.specs.Basics.{every, any, allFrom}
 use Rattle.meaning.specs.Site.{Site}
 use Rattle.meaning.specs.Board.{Sort, sortOf, isHolder, stands, place, free, run, runTo, mark}
-use Rattle.meaning.proofs.BasicsLaws.{any-here, any-skip}
 use Rattle.board.specs.Holders.{sortCase}
 use Rattle.board.specs.declared.Holder.{Holder}
 
@@ -35,12 +34,11 @@ full i v d e = rw e (rw (drop-length d) (append-nil _))
 
 -- ---- a search from a place on
 
-module _ (p : ℕ → Bool) (l : List ℕ) (i : ℕ) where
-  pub any-found : i < length l → p (getD l i 0) ≡ true → any p (drop i l) ≡ true
-  any-found lt e = rw (drop-cons l i 0 lt) (any-here p (getD l i 0) (drop (suc i) l) e)
-
-  pub any-next : i < length l → p (getD l i 0) ≡ false → any p (drop i l) ≡ any p (drop (i + 1) l)
-  any-next lt e = rw (add-one i) (ap (any p) (drop-cons l i 0 lt) ∙ any-skip p (getD l i 0) (drop (suc i) l) e)
+pub any-more : (p : ℕ → Bool) (l : List ℕ) (i : ℕ) (found : Bool) → i < length l
+    → (found || any p (drop i l)) ≡ ((found || p (getD l i 0)) || any p (drop (i + 1) l))
+unfolding any
+any-more p l i true lt = refl
+any-more p l i false lt = rw (add-one i, drop-cons l i 0 lt)
 
 -- ---- standing
 

@@ -125,14 +125,13 @@ pub fn holder_stands(board: &[u8], h: u8) -> bool
     if !is_holder(h) {
         return false;
     }
+    let mut found = false;
     let mut at = HEADER;
     while at < board.len() {
-        if board[at] == h {
-            return true;
-        }
+        found = found | (board[at] == h);
         at += 1;
     }
-    false
+    found
 }
 
 // A byte after the holder h is withdrawn.

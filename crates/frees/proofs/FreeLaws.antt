@@ -15,7 +15,7 @@ use Rattle.meaning.specs.Site.{Site}
 use Rattle.meaning.specs.Board.{free}
 use Rattle.meaning.proofs.BasicsLaws.{decide}
 use Rattle.rows.specs.Bits.{odd, bit}
-use Rattle.rows.specs.Rows.{has, Changed}
+use Rattle.rows.specs.Rows.{has, ZeroFrom, Changed}
 use Rattle.frees.specs.Frees.{rowsFree, freeBit, freeWord, freeTo}
 use Rattle.rows.proofs.BitLaws.{odd-of, even-of, bit-past}
 use Rattle.rows.proofs.RowLaws.{empty-row, mapRow, map-turn}
@@ -74,6 +74,25 @@ bit-free x e = (rw e, omega arith)
 pub bit-held : (x : ℕ) → (x ≡ 0 → ⊥) → (0 ≡ freeBit x) × (0 ≤ 1)
 unfolding freeBit
 bit-held x e = (rw (ne-eqb x 0 e), omega arith)
+
+-- bytes of 0 alone
+pub zero-all : (b : List ℕ) (s i all : ℕ) → 64 ≤ i → (all ≡ 0 → ZeroFrom b s i) → all ≡ 0 → ZeroFrom b s 64
+zero-all b s i all most h e j lt = h e j (omega arith)
+
+zero-word : (b : List ℕ) (n s : ℕ) → ZeroFrom b s n → freeWord b s n + 1 ≡ 2 ^ n
+unfolding freeWord freeBit
+zero-word b zero s h = omega arith
+zero-word b (suc n) s h =
+    let first : getD b s 0 ≡ 0 = sym (ap (λ (p : ℕ). getD b p 0) (add-zero s)) ∙ h 0 (omega arith) in
+    let rest : freeWord b (suc s) n + 1 ≡ 2 ^ n =
+    zero-word b n (suc s)
+    (λ i lt. let p : suc s + i ≡ s + suc i = omega arith in ap (λ (x : ℕ). getD b x 0) p ∙ h (suc i) (omega arith)) in
+    rw first (omega (arith, rest, pow-suc 2 n))
+
+pub zero-full : (b : List ℕ) (s n : ℕ) → 64 ≤ n → n ≤ 64 → ZeroFrom b s 64 → 18446744073709551615 ≡ freeWord b s n
+zero-full b s n most few h =
+    let same : n ≡ 64 = omega arith in
+    rw same (omega (arith, zero-word b 64 s h))
 
 -- ---- a row: word i has the ticks from 64 i on of the first `width`
 

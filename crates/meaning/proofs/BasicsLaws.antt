@@ -225,11 +225,6 @@ pub any-case : {A X : Type 0} (p : A → Bool) (x : A) (xs : List A) → any p (
 unfolding any
 any-case p x xs h f g = decide (p x) f (λ e. g e (simp e at h))
 
--- the first does not pass
-pub any-skip : {A : Type 0} (p : A → Bool) (x : A) (xs : List A) → p x ≡ false → any p (x ∷ xs) ≡ any p xs
-unfolding any
-any-skip p x xs h = simp h
-
 -- the tests as properties
 pub some-any : {A : Type 0} (P : A → Type 0) (p : A → Bool) → ((x : A) → P x → p x ≡ true) → {xs : List A} → Some P xs → any p xs ≡ true
 some-any P p f (here {x = x} {xs = xs} h) = any-here p x xs (f x h)

@@ -3,15 +3,13 @@ ghost use mathlib.Core.Path.{_≡_};
 ghost use mathlib.Core.Bool.{_&&_, true};
 ghost use Prim.Native.Nat.{ℕ, _+_, _*_, _≤_, _<_};
 ghost use lib.ListN.{length};
-ghost use Rattle.meaning.specs.Site.{Site};
-ghost use Rattle.meaning.specs.WellFormed.{WellFormed};
-ghost use Rattle.meaning.specs.Board.{free};
-ghost use Rattle.meaning.specs.Plan.{sweepsFree, node};
-ghost use Rattle.rows.specs.Rows.{has, Changed};
-ghost use Rattle.frees.specs.Frees.{rowsFree};
+ghost use Rattle.meaning.specs.Plan.{sweepsFree};
+ghost use mathlib.Core.List.{List};
+ghost use Rattle.rows.specs.Rows.{has, Words, Changed};
+ghost use Rattle.frees.specs.Frees.{rowsFree, Runs};
 ghost use Rattle.rounds.specs.Arrays.{cellAt, States, Motions};
 ghost use Rattle.rounds.specs.Rounds.{Closed, Explored};
-ghost use Rattle.reach.specs.Decoded.{sweepsAt, Decoded, SweepsIn, Sweeps, Starts, ReachedRows};
+ghost use Rattle.reach.specs.Decoded.{sweepsAt, SweepsIn, Sweeps, Starts};
 
 fn byte(x: u8) -> usize
     ensures { λ r. ⌜ (r ≡ x) × (r < 256) ⌝ }
@@ -22,18 +20,12 @@ fn byte(x: u8) -> usize
 // ---- allowed starts
 
 // Narrows row m down by `count` sweeps, three bytes each, from `place` on.
-fn allow_one(
-    allowed: &mut [u64],
-    frees: &[u64],
-    sweeps: &[u8],
-    m: usize,
-    place: usize,
-    count: usize,
-)
-    requires { ⌜ (m * 16 + 16 ≤ length (now allowed)) × (4096 ≤ length (now frees)) ⌝ }
+fn allow_one(allowed: &mut [u64], runs: &[u64], sweeps: &[u8], m: usize, place: usize, count: usize)
+    requires { ⌜ (m * 16 + 16 ≤ length (now allowed)) × ((25600 ≤ length (now runs)) × Words (now runs)) ⌝ }
     requires { ⌜ SweepsIn (now sweeps) place count ⌝ }
-    ensures { λ _. ⌜ Changed (now (allowed .entry)) (now (allowed .exit)) m
-        (λ (t : ℕ). has (now (allowed .entry)) m t && sweepsFree (rowsFree (now (frees .entry))) (sweepsAt (now (sweeps .entry)) place count) t) ⌝ }
+    ensures { λ _. ⌜ length (now (allowed .exit)) ≡ length (now (allowed .entry)) ⌝ }
+    ensures { λ _. ⌜ ((f : List ℕ) → Runs f (now (runs .entry)) 1280 → Changed (now (allowed .entry)) (now (allowed .exit)) m
+        (λ (t : ℕ). has (now (allowed .entry)) m t && sweepsFree (rowsFree f) (sweepsAt (now (sweeps .entry)) place count) t)) ⌝ }
 {
     let mut p = place;
     let mut i = 0;
@@ -41,7 +33,7 @@ fn allow_one(
         let cell = byte(sweeps[p]);
         let first = byte(sweeps[p + 1]);
         let last = byte(sweeps[p + 2]);
-        frees::narrow_run(allowed, frees, m, cell, first, last);
+        frees::narrow_run(allowed, runs, m, cell, first, last);
         p += 3;
         i += 1;
     }
@@ -54,11 +46,13 @@ pub fn allow_all(allowed: &mut [u64], frees: &[u64], moves: &[u16], sweeps: &[u8
     requires { ⌜ ((m t : ℕ) → m < k → t < 1024 → has (now allowed) m t ≡ true) ⌝ }
     ensures { λ _. ⌜ Starts k (now (moves .entry)) (now (sweeps .entry)) (now (frees .entry)) (now (allowed .exit)) ⌝ }
 {
+    let mut runs = [0u64; 25600];
+    frees::fill_runs(&mut runs, frees);
     let mut m = 0;
     while m < k {
         let place = rounds::wide(moves[m * 5 + 3]);
         let count = rounds::wide(moves[m * 5 + 4]);
-        allow_one(allowed, frees, sweeps, m, place, count);
+        allow_one(allowed, &runs, sweeps, m, place, count);
         m += 1;
     }
 }
@@ -90,30 +84,4 @@ pub fn explore(
         return reached;
     }
     reached
-}
-
-// The pairs that are reached on the board from (start, tick): bit t of row s is meaning's answer, and no bit below the tick is set.
-pub fn reach_board(
-    board: &[u8],
-    cells: usize,
-    horizon: usize,
-    states: &[u16],
-    n: usize,
-    moves: &[u16],
-    k: usize,
-    sweeps: &[u8],
-    start: usize,
-    tick: usize,
-) -> [u64; 4096]
-    requires { ⌜ (cells ≤ 255) × ((horizon ≤ 1000) × (4 + cells * (horizon + 1) ≤ length (now board))) ⌝ }
-    requires { ⌜ States n (now states) × (Motions k (now moves) × Sweeps k (now moves) (now sweeps)) ⌝ }
-    requires { ⌜ (start < n) × (tick ≤ horizon) ⌝ }
-    ensures { λ l. ⌜ ((site : Site) → WellFormed site → site .cells ≡ cells → site .horizon ≡ horizon
-        → Decoded site n k (now (states .entry)) (now (moves .entry)) (now (sweeps .entry))
-        → ReachedRows site (free site (now (board .entry))) (node start tick) l) ⌝ }
-{
-    let frees = frees::free_rows(board, cells, horizon);
-    let mut allowed = [18446744073709551615u64; 32000];
-    allow_all(&mut allowed, &frees, moves, sweeps, k);
-    explore(states, moves, &frees, &allowed, n, k, start, tick)
 }

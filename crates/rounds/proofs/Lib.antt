@@ -1,1 +1,2 @@
 pub mod StepLaws
+pub mod ListLaws

@@ -13,7 +13,7 @@ use Rattle.meaning.proofs.BasicsLaws.{decide, and-left, and-right}
 use Rattle.rows.specs.Rows.{at, has, Words, total, Grown, Changed, Met, pushed, waited, filled, seeded}
 use Rattle.rows.proofs.RowLaws.{empty-row, total-bound, grown-start}
 use Rattle.rounds.specs.Arrays.{cellAt, speedAt, fromAt, toAt, spanAt}
-use Rattle.rounds.specs.Rounds.{Pairs, WaitClosed, MoveClosed, Below, Closed, Inside, Step, Settled, Explored}
+use Rattle.rounds.specs.Rounds.{Pairs, WaitClosed, MoveClosed, Below, Closed, Inside, Step, Going, Settled, Explored, Waited, Moved}
 
 -- ---- tests
 
@@ -154,6 +154,19 @@ module _ (mv al l l′ x : List ℕ) (m d from to span : ℕ)
         closed = λ z. rw (is-from, is-to, is-span) at (move-closed z);
       }
 
+  move-on : (from ≡ to → ⊥) → Closed-here (has l′)
+  move-on ne t h e may =
+      move-late t h
+      ∙ or-right (has l to (t + span)) (has l from t && has al m t)
+      (ap₂ (λ (a b : Bool). a && b) (sym (changed .others from t ne (omega arith)) ∙ e) may)
+
+  pub move-after : Moved mv al m l l′
+  move-after =
+      record {
+        closed = λ ne. rw (is-from, is-to, is-span) at (move-on (λ same. ne (sym is-from ∙ same ∙ is-to)));
+        others = λ x t ne h. changed .others x t (λ same. ne (same ∙ is-to)) h;
+      }
+
 -- ---- the waits of a state
 
 module _ (st fr l l′ : List ℕ) (s d c : ℕ) (is-cell : c ≡ cellAt st s) (stands : speedAt st s ≡ 0)
@@ -218,18 +231,24 @@ module _ (st fr l l′ : List ℕ) (s d c : ℕ) (is-cell : c ≡ cellAt st s) (
         closed = λ z still. rw is-cell at (wait-closed z);
       }
 
+  wait-on : Waits (has l′)
+  wait-on t h e now next =
+      changed .here (suc t) h
+      ∙ or-right (has l s (suc t)) (run (suc t))
+      (run-next t next (either (has l s t) (run t) (sym (changed .here t (omega arith)) ∙ e) (λ o. run-here t now o) (λ o. o)))
+
+  pub wait-after : Waited st fr s l l′
+  wait-after = record { closed = λ still. rw is-cell at wait-on; others = changed .others }
+
 -- a state that does not stand has no waits
+pub moving-after : (st fr l : List ℕ) (s : ℕ) → (speedAt st s ≡ 0 → ⊥) → Waited st fr s l l
+moving-after st fr l s ne = record { closed = λ still. absurd (ne still); others = λ x t other h. refl }
+
 pub moving-step : (st fr l : List ℕ) (s : ℕ) → (speedAt st s ≡ 0 → ⊥) → Step (WaitClosed st fr s) l l 0
 moving-step st fr l s ne =
     record { within = λ R w i. i; kept = λ x t h e. e; grown = grown-start l; closed = λ z still. absurd (ne still) }
 
 -- ---- rounds
-
--- on the way from l₀
-pub record Going (C : Pairs → Type 0) (l₀ l : List ℕ) : Type 0 where
-  pub within : (R : Pairs) → C R → Inside l₀ R → Inside l R
-  pub kept : Inside l₀ (has l)
-  pub sized : length l ≡ length l₀
 
 pub going-start : (C : Pairs → Type 0) (l : List ℕ) → Going C l l
 going-start C l = record { within = λ R c i. i; kept = λ s t h e. e; sized = refl }
@@ -241,6 +260,42 @@ going-on C l₀ l l′ d g s =
       kept = λ x t h e. s .kept x t h (g .kept x t h e);
       sized = s .grown .sized ∙ g .sized;
     }
+
+pub going-then : (C : Pairs → Type 0) (l₀ l l′ : List ℕ) → Going C l₀ l → Going C l l′ → Going C l₀ l′
+going-then C l₀ l l′ g h =
+    record {
+      within = λ R c i. h .within R c (g .within R c i);
+      kept = λ x t lt e. h .kept x t lt (g .kept x t lt e);
+      sized = h .sized ∙ g .sized;
+    }
+
+pub settled-after : (C : Pairs → Type 0) (l₀ l l′ : List ℕ) → Going C l₀ l → Settled C l l′ → Settled C l₀ l′
+settled-after C l₀ l l′ g h =
+    record {
+      within = λ R c i. h .within R c (g .within R c i);
+      kept = λ x t lt e. h .kept x t lt (g .kept x t lt e);
+      closed = h .closed;
+    }
+
+-- closed under more
+pub going-more : (C D : Pairs → Type 0) → ((R : Pairs) → D R → C R) → (l₀ l : List ℕ) → Going C l₀ l → Going D l₀ l
+going-more C D f l₀ l g = record { within = λ R d. g .within R (f R d); kept = g .kept; sized = g .sized }
+
+pub going-one : (C : ℕ → Pairs → Type 0) (n i : ℕ) (l₀ l l′ : List ℕ) (d : ℕ) → i < n → Going (Below C n) l₀ l → Step (C i) l l′ d → Going (Below C n) l₀ l′
+going-one C n i l₀ l l′ d h g s =
+    record {
+      within = λ R c k. s .within R (c i h) (g .within R c k);
+      kept = λ x t lt e. s .kept x t lt (g .kept x t lt e);
+      sized = s .grown .sized ∙ g .sized;
+    }
+
+-- some waits, and then some motions
+pub going-both : (n k : ℕ) (st mv fr al l l₁ l₂ : List ℕ) → Going (Below (WaitClosed st fr) n) l l₁ → Going (Below (MoveClosed mv al) k) l₁ l₂
+    → Going (Closed n k st mv fr al) l l₂
+going-both n k st mv fr al l l₁ l₂ w m =
+    going-then (Closed n k st mv fr al) l l₁ l₂
+    (going-more (Below (WaitClosed st fr) n) (Closed n k st mv fr al) (λ R c. c .0) l l₁ w)
+    (going-more (Below (MoveClosed mv al) k) (Closed n k st mv fr al) (λ R c. c .1) l₁ l₂ m)
 
 -- the bits still unset, as a number
 unfoldable pub unset : List ℕ → ℕ

@@ -5,16 +5,16 @@ use native.Mathlib.Nat.{add-zero}
 use native.Mathlib.Numerals.{add-one}
 use native.Mathlib.Omega.{arith}
 use mathlib.Core.Path.{_≡_, refl, sym, ap, ap₂, _∙_}
-use mathlib.Core.Bool.{Bool, _&&_, _||_, or-false}
+use mathlib.Core.Bool.{Bool, false, _&&_, _||_, or-false}
 use mathlib.Core.List.{List}
-use lib.Bits.{bitAnd, bitOr, bitXor, and-le-l, and-le-r}
+use lib.Bits.{bitAnd, bitOr, bitXor, and-le-l, and-le-r, or-add-and}
 use lib.Dec.{ltb, eqb}
 use lib.ListN.{length, getD, set, replicate, length-set}
 use lib.Seq.{getD-set-same, getD-set-other}
 use borrow.Author.Tests.{ltb-true, ltb-false, eqb-true, eqb-false, eq-eqb, ne-eqb}
 use Rattle.meaning.proofs.BasicsLaws.{decide}
 use Rattle.rows.specs.Bits.{odd, bit, windowOf, runOf, fillOf}
-use Rattle.rows.specs.Rows.{at, has, Words, Grown, Changed, Met, pushed, waited, filled, seeded}
+use Rattle.rows.specs.Rows.{at, has, Words, ZeroFrom, Grown, Changed, Met, pushed, waited, filled, seeded}
 use Rattle.rows.proofs.BitLaws.{bit-and, bit-or, bit-shr, bit-rem, bit-scaled, bit-scaled-low, bit-past, fill-first, fill-next}
 use Rattle.rows.proofs.RowLaws.{zeros-at, zero-bit, mapRow, map-length, map-before, map-bit, map-turn, Putting, putting-turn, putting-end, window-at, other-row, this-row, has-is, grown-start, grown-turn}
 
@@ -86,6 +86,23 @@ seed-done l s t early room =
         decide (eqb u t)
         (λ q. let same : u ≡ t = eqb-true u t q in eq-eqb (u % 64) (t % 64) (ap (λ (n : ℕ). n % 64) same) ∙ sym q)
         (λ q. let other : u ≡ t → ⊥ = eqb-false u t q in ne-eqb (u % 64) (t % 64) (λ d. other (omega arith)) ∙ sym q)
+
+-- ---- a row without ticks
+
+pub zeros-none : (l : List ℕ) (a : ℕ) → ZeroFrom l a 0
+zeros-none l a j h = absurd (omega arith)
+
+pub zeros-more : (l : List ℕ) (a i all : ℕ) → (all ≡ 0 → ZeroFrom l a i) → bitOr all (getD l (a + i) 0) ≡ 0 → ZeroFrom l a (i + 1)
+zeros-more l a i all h e j lt =
+    let x : ℕ = getD l (a + i) 0 in
+    decide (eqb j i)
+    (λ u. let same : j ≡ i = eqb-true j i u in rw same (omega (arith, e, or-add-and all x, and-le-l all x, and-le-r all x)))
+    (λ u.
+    let other : j ≡ i → ⊥ = eqb-false j i u in
+    h (omega (arith, e, or-add-and all x, and-le-l all x, and-le-r all x)) j (omega arith))
+
+pub zeros-row : (l : List ℕ) (s i : ℕ) → 16 ≤ i → ZeroFrom l (s * 16) i → (t : ℕ) → t < 1024 → has l s t ≡ false
+zeros-row l s i most z t h = has-is l s t ∙ ap (λ (w : ℕ). bit w (t % 64)) (z (t / 64) (omega arith)) ∙ zero-bit (t % 64)
 
 -- ---- the ticks that two rows share
 

@@ -26,6 +26,10 @@ unfoldable pub total : List ℕ → ℕ
 total [] = 0
 total (x ∷ l) = x + total l
 
+-- the n numbers from place p on are 0
+abbrev pub ZeroFrom : List ℕ → ℕ → ℕ → Type 0
+ZeroFrom l p n = (i : ℕ) → i < n → getD l (p + i) 0 ≡ 0
+
 -- nothing where d is 0; else the sum of the words has grown
 pub record Grown (l₀ l : List ℕ) (d : ℕ) : Type 0 where
   pub same : d ≡ 0 → l ≡ l₀

@@ -1,5 +1,6 @@
 // Sets of ticks as rows of 16 words of 64 bits.
 ghost use mathlib.Core.Path.{_≡_};
+ghost use mathlib.Core.Bool.{false};
 ghost use Prim.Native.Nat.{ℕ, _+_, _*_, _≤_, _<_};
 ghost use lib.ListN.{length};
 ghost use Rattle.rows.specs.Bits.{windowOf, fillOf};
@@ -33,6 +34,21 @@ pub fn is_set(l: &[u64], s: usize, t: usize) -> bool
 {
     let word = l[s * 16 + t / 64];
     (word >> (t % 64)) % 2 == 1
+}
+
+// The bits of the words of row s, of all together: 0 only if the row is empty.
+pub fn bits(l: &[u64], s: usize) -> u64
+    requires { ⌜ s * 16 + 16 ≤ length (now l) ⌝ }
+    ensures { λ r. ⌜ (r ≡ 0 → ((t : ℕ) → t < 1024 → has (now (l .entry)) s t ≡ false)) ⌝ }
+{
+    let a = s * 16;
+    let mut all: u64 = 0;
+    let mut i = 0;
+    while i < 16 {
+        all = all | l[a + i];
+        i += 1;
+    }
+    all
 }
 
 // Puts tick t into row s.

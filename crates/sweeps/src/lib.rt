@@ -1,11 +1,11 @@
 // The rules on the sweeps of one motion, where they stand in a site file.
 ghost use mathlib.Core.Path.{_≡_};
-ghost use mathlib.Core.Bool.{_&&_};
+ghost use mathlib.Core.Bool.{_&&_, false};
 ghost use Prim.Native.Nat.{_+_, _*_, _<_, _≤_};
 ghost use lib.ListN.{length};
 ghost use Rattle.meaning.specs.Basics.{all, allBelow};
 ghost use Rattle.meaning.specs.Site.{covers, uses, handover, sweepGood, sweepsGood};
-ghost use Rattle.sweeps.specs.Places.{sweepAt, sweepsAt, UseIs};
+ghost use Rattle.sweeps.specs.Places.{sweepAt, sweepsAt, Within, Linked, UseIs};
 
 // A sweep: its cell, and the first and the last offset at which it uses it.
 pub struct Use {
@@ -90,6 +90,51 @@ fn handed_over(file: &[u8], at: usize, count: usize, j: u8) -> bool
     false
 }
 
+// The last offset of the sweep at `at`, if the sweep uses the offset `j`; else `j`.
+fn last_from(file: &[u8], at: usize, j: u8) -> u8
+    requires { ⌜ at + 2 < length (now file) ⌝ }
+    ensures { λ r. ⌜ Within (sweepAt (now (file .entry)) at) j r ⌝ }
+{
+    if j < file[at + 1] {
+        return j;
+    }
+    if file[at + 2] < j {
+        return j;
+    }
+    file[at + 2]
+}
+
+// An offset up to which single sweeps, one after the other, hand over from `j` on.
+fn linked_to(file: &[u8], at: usize, count: usize, j: u8) -> u8
+    requires { ⌜ at + 3 * count ≤ length (now file) ⌝ }
+    ensures { λ r. ⌜ Linked (sweepsAt (now (file .entry)) at count) j r ⌝ }
+{
+    let mut end = j;
+    let mut p = at;
+    let mut left = count;
+    while 0 < left {
+        end = last_from(file, p, end);
+        p = p + 3;
+        left = left - 1;
+    }
+    end
+}
+
+// An offset up to which there are handovers from `j` on: `j` only where there is none at `j`.
+fn handed_to(file: &[u8], at: usize, count: usize, j: u8) -> u8
+    requires { ⌜ (at + 3 * count ≤ length (now file)) × (j < 255) ⌝ }
+    ensures { λ r. ⌜ Linked (sweepsAt (now (file .entry)) at count) j r × (r ≤ j → handover (sweepsAt (now (file .entry)) at count) j ≡ false) ⌝ }
+{
+    let end = linked_to(file, at, count, j);
+    if j < end {
+        return end;
+    }
+    if handed_over(file, at, count, j) {
+        return j + 1;
+    }
+    j
+}
+
 // There is a handover at each offset below `span`.
 fn all_handed_over(file: &[u8], at: usize, count: usize, span: u8) -> bool
     requires { ⌜ at + 3 * count ≤ length (now file) ⌝ }
@@ -97,10 +142,11 @@ fn all_handed_over(file: &[u8], at: usize, count: usize, span: u8) -> bool
 {
     let mut j: u8 = 0;
     while j < span {
-        if !handed_over(file, at, count, j) {
+        let next = handed_to(file, at, count, j);
+        if next <= j {
             return false;
         }
-        j = j + 1;
+        j = next;
     }
     true
 }

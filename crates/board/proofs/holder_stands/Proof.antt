@@ -1,25 +1,27 @@
--- `board::holder_stands` meets its contract. The invariant: the bytes from at on answer as all after the edition do.
+-- `board::holder_stands` meets its contract. The invariant: what was found and the bytes from at on answer as all after the edition do.
 -- Assumes nothing.
 use Prim.Native.Nat.{ℕ, _≤_, _-_}
 use mathlib.Core.Path.{_≡_, refl, sym, ap, _∙_}
-use borrow.Author.Tests.{eq-eqb, ne-eqb, not-true, not-false}
+use mathlib.Core.Bool.{Bool, _||_, or-false}
+use borrow.Author.Tests.{not-true, not-false}
 use lib.Dec.{eqb}
+use mathlib.Core.List.{List}
 use lib.ListN.{length, drop, drop-of-length-le}
 use Rattle.meaning.specs.Limits.{header}
 use Rattle.meaning.specs.Basics.{any}
 use Rattle.meaning.proofs.BasicsLaws.{any-nil}
-use Rattle.board.proofs.Laws.{any-found, any-next, stands-no, stands-any}
+use Rattle.board.proofs.Laws.{any-more, stands-no, stands-any}
 use borrow.Author.Needs.{needs}
 use native.Mathlib.Omega.{arith}
 use Rattle.board.proofs.holder_stands.Statement.{statement}
 use Rattle.board.proofs.holder_stands.Tie as tie
 
 abbrev Inv-loop : tie.InvT-loop
-Inv-loop board h at₀ at =
-    (at ≤ length board) × (any (λ (b : ℕ). eqb b h) (drop at board) ≡ any (λ (b : ℕ). eqb b h) (drop header board))
+Inv-loop board h found₀ at₀ found at =
+    (at ≤ length board) × ((found || any (λ (b : ℕ). eqb b h) (drop at board)) ≡ any (λ (b : ℕ). eqb b h) (drop header board))
 
 abbrev μ-loop : tie.MeasureT-loop
-μ-loop board h at₀ at = length board - at
+μ-loop board h found₀ at₀ found at = length board - at
 
 is-holder-requires : tie.Need-is-holder-requires Inv-loop μ-loop
 is-holder-requires c κs = search needs
@@ -30,19 +32,8 @@ returns c = sym (stands-no _ _ (sym (c .before .is-holder .ensures) ∙ not-true
 loop-holds : tie.Need-loop-holds Inv-loop μ-loop
 loop-holds c = (omega arith, refl)
 
-shared-slice-read-if2 : tie.Need-shared-slice-read-if2 Inv-loop μ-loop
-shared-slice-read-if2 c = omega arith
-
-returns-2 : tie.Need-returns-2 Inv-loop μ-loop
-returns-2 c =
-    let at-loop = c .before .before .before in
-    let past = at-loop .before in
-    let start = past .before .before .before in
-    let board = start .args .board .now in
-    let h = start .args .h in
-    sym (stands-any board h (sym (past .before .is-holder .ensures) ∙ not-false _ (past .if1 .left))
-    ∙ sym (at-loop .loop .inv .1)
-    ∙ any-found (λ (b : ℕ). eqb b h) board (at-loop .loop .at) (omega arith) (eq-eqb _ _ (c .if2 .taken)))
+shared-slice-read-found : tie.Need-shared-slice-read-found Inv-loop μ-loop
+shared-slice-read-found c = omega arith
 
 add-at : tie.Need-add-at Inv-loop μ-loop
 add-at c = omega arith
@@ -52,23 +43,25 @@ loop-less c = omega arith
 
 loop-again : tie.Need-loop-again Inv-loop μ-loop
 loop-again c =
-    let at-loop = c .before .before .before in
+    let at-loop = c .before .before in
     let start = at-loop .before .before .before .before in
     let board = start .args .board .now in
     let h = start .args .h in
-    (omega arith, sym (any-next (λ (b : ℕ). eqb b h) board (at-loop .loop .at) (omega arith) (ne-eqb _ _ (c .if2 .left))) ∙ at-loop .loop .inv .1)
+    (omega arith, sym (any-more (λ (b : ℕ). eqb b h) board (at-loop .loop .at) (at-loop .loop .found) (omega arith)) ∙ at-loop .loop .inv .1)
 
-returns-3 : tie.Need-returns-3 Inv-loop μ-loop
-returns-3 c =
+returns-2 : tie.Need-returns-2 Inv-loop μ-loop
+returns-2 c =
     let at-loop = c .before in
     let past = at-loop .before in
     let start = past .before .before .before in
     let board = start .args .board .now in
     let h = start .args .h in
+    let found = at-loop .loop .found in
     sym (stands-any board h (sym (past .before .is-holder .ensures) ∙ not-false _ (past .if1 .left))
     ∙ sym (at-loop .loop .inv .1)
-    ∙ ap (any (λ (b : ℕ). eqb b h)) (drop-of-length-le board {i = at-loop .loop .at} (omega arith))
-    ∙ any-nil (λ (b : ℕ). eqb b h))
+    ∙ ap (λ (l : List ℕ). found || any (λ (b : ℕ). eqb b h) l) (drop-of-length-le board {i = at-loop .loop .at} (omega arith))
+    ∙ ap (λ (b : Bool). found || b) (any-nil (λ (b : ℕ). eqb b h))
+    ∙ or-false found)
 
 pub holder-stands-spec : {M : Type 1} → statement M
 holder-stands-spec =
@@ -79,9 +72,8 @@ holder-stands-spec =
     is-holder-requires
     returns
     loop-holds
-    shared-slice-read-if2
-    returns-2
+    shared-slice-read-found
     add-at
     loop-less
     loop-again
-    returns-3)
+    returns-2)

@@ -1,53 +1,59 @@
--- `frees::copy_row` meets its contract: the loop puts the row into words of 0, word by word.
+-- `frees::copy_row` meets its contract: the loop writes the row word by word.
 -- Assumes nothing.
-use Prim.Native.Nat.{_+_, _*_, _-_, _≤_}
+use Prim.Native.Nat.{_+_, _-_, _*_, _≤_}
+use Rattle.frees.proofs.RunLaws.{Placing, placing-start, copyWord, copy-turn, copy-done}
+use borrow.Author.Needs.{needs}
 use native.Mathlib.Omega.{arith}
-use Rattle.rows.proofs.RowLaws.{Putting, putting-start}
-use Rattle.frees.proofs.RunLaws.{copyWord, copy-turn, copy-done}
 use Rattle.frees.proofs.copy_row.Statement.{statement}
 use Rattle.frees.proofs.copy_row.Tie as tie
 
 abbrev Inv-loop : tie.InvT-loop
-Inv-loop f c b x₀ i₀ x i = (i ≤ 16) × Putting (copyWord f b) 0 x i
+Inv-loop runs₀ f c a b i₀ runs i = (i ≤ 16) × Placing (copyWord f b) a runs₀ runs i
 
 abbrev μ-loop : tie.MeasureT-loop
-μ-loop f c b x₀ i₀ x i = 16 - i
+μ-loop runs₀ f c a b i₀ runs i = 16 - i
+
+mul-a : tie.Need-mul-a Inv-loop μ-loop
+mul-a c = search needs
 
 mul-b : tie.Need-mul-b Inv-loop μ-loop
-mul-b c = omega arith
+mul-b c = search needs
 
 loop-holds : tie.Need-loop-holds Inv-loop μ-loop
-loop-holds c = (omega arith, putting-start _ _)
+loop-holds c = (omega arith, placing-start _ _ _ (c .pre .1 .1))
 
-add-x : tie.Need-add-x Inv-loop μ-loop
-add-x c = omega arith
+add-runs : tie.Need-add-runs Inv-loop μ-loop
+add-runs c = search needs
 
-mul-x : tie.Need-mul-x Inv-loop μ-loop
-mul-x c = omega arith
+mul-runs : tie.Need-mul-runs Inv-loop μ-loop
+mul-runs c = search needs
 
-shared-slice-read-x : tie.Need-shared-slice-read-x Inv-loop μ-loop
-shared-slice-read-x c = omega arith
+shared-slice-read-runs : tie.Need-shared-slice-read-runs Inv-loop μ-loop
+shared-slice-read-runs c = search needs
 
-mul-x-2 : tie.Need-mul-x-2 Inv-loop μ-loop
-mul-x-2 c = omega arith
+add-runs-2 : tie.Need-add-runs-2 Inv-loop μ-loop
+add-runs-2 c = search needs
 
-array-write-x : tie.Need-array-write-x Inv-loop μ-loop
-array-write-x c = omega (arith, c .before .before .loop .inv .1 .sized)
+mul-runs-2 : tie.Need-mul-runs-2 Inv-loop μ-loop
+mul-runs-2 c = search needs
+
+slice-write-runs : tie.Need-slice-write-runs Inv-loop μ-loop
+slice-write-runs c = search needs
 
 add-i : tie.Need-add-i Inv-loop μ-loop
-add-i c = omega arith
+add-i c = search needs
 
 loop-less : tie.Need-loop-less Inv-loop μ-loop
-loop-less c = omega arith
+loop-less c = search needs
 
 loop-again : tie.Need-loop-again Inv-loop μ-loop
-loop-again c =
-    let a = c .before .before in
-    let fits = c .shared-slice-known .given (a .before .args .c * 16 + a .loop .i) in
-    (omega arith, copy-turn _ _ _ _ (omega arith) (omega (arith, fits)) (a .loop .inv .1))
+loop-again c = (omega arith, copy-turn _ _ _ _ _ _ (omega arith) (omega (arith, c .shared-slice-known .given (c .before .before .before .args .c * 16 + c .before .before .loop .i))) (c .before .before .loop .inv .1))
+
+same-length : tie.Need-same-length Inv-loop μ-loop
+same-length c = c .before .loop .inv .1 .sized
 
 returns : tie.Need-returns Inv-loop μ-loop
-returns c = copy-done _ _ _ _ (omega arith) (omega arith) (c .before .loop .inv .1)
+returns c = copy-done _ _ _ _ _ (c .before .before .pre .0) (omega arith) (omega arith) (c .before .loop .inv .1)
 
 pub copy-row-spec : {M : Type 1} → statement M
 copy-row-spec =
@@ -55,14 +61,17 @@ copy-row-spec =
     (tie.spec
     Inv-loop
     μ-loop
+    mul-a
     mul-b
     loop-holds
-    add-x
-    mul-x
-    shared-slice-read-x
-    mul-x-2
-    array-write-x
+    add-runs
+    mul-runs
+    shared-slice-read-runs
+    add-runs-2
+    mul-runs-2
+    slice-write-runs
     add-i
     loop-less
     loop-again
+    same-length
     returns)

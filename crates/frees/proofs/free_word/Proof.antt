@@ -1,70 +1,32 @@
--- `frees::free_word` meets its contract: the bytes from the last down to `left` are in the word.
+-- `frees::free_word` meets its contract: 64 bytes of 0 give 64 bits.
 -- Assumes nothing.
-use Prim.Native.Nat.{_+_, _-_, _≤_}
+use borrow.Author.Needs.{needs}
 use native.Mathlib.Omega.{arith}
-use mathlib.Core.Path.{_≡_}
-use Rattle.frees.specs.Frees.{freeWord}
-use Rattle.frees.proofs.FreeLaws.{free-none, free-more, free-all, free-fits}
+use Rattle.frees.proofs.FreeLaws.{zero-full}
 use Rattle.frees.proofs.free_word.Statement.{statement}
 use Rattle.frees.proofs.free_word.Tie as tie
 
-abbrev Inv-loop : tie.InvT-loop
-Inv-loop board start n word₀ left₀ word left = (left ≤ n) × (word ≡ freeWord board (start + left) (n - left))
+free-bits-requires : tie.Need-free-bits-requires
+free-bits-requires c κs = search needs
 
-abbrev μ-loop : tie.MeasureT-loop
-μ-loop board start n word₀ left₀ word left = left
+returns : tie.Need-returns
+returns c = search needs
 
-loop-holds : tie.Need-loop-holds Inv-loop μ-loop
-loop-holds c = (omega arith, free-none _ _ _)
+held-bits-requires : tie.Need-held-bits-requires
+held-bits-requires c κs = search needs
 
-sub-left : tie.Need-sub-left Inv-loop μ-loop
-sub-left c = omega arith
+returns-2 : tie.Need-returns-2
+returns-2 c =
+    let a = c .before .before .before .before .args in
+    zero-full (a .board .now) (a .start) (a .n) (omega arith) (omega arith) (c .before .held-bits .ensures (c .if2 .taken))
 
-mul-word : tie.Need-mul-word Inv-loop μ-loop
-mul-word c =
-    let a = c .before in
-    let b = a .before .before .args in
-    omega (arith, a .loop .inv .1, free-fits (b .board .now) (b .n - a .loop .left) (b .start + a .loop .left) (omega arith))
+free-bits-requires-2 : tie.Need-free-bits-requires-2
+free-bits-requires-2 c κs = search needs
 
-add-free-bit : tie.Need-add-free-bit Inv-loop μ-loop
-add-free-bit c = omega arith
-
-shared-slice-read-free-bit : tie.Need-shared-slice-read-free-bit Inv-loop μ-loop
-shared-slice-read-free-bit c = omega arith
-
-free-bit-requires : tie.Need-free-bit-requires Inv-loop μ-loop
-free-bit-requires c κs = omega arith
-
-add-word : tie.Need-add-word Inv-loop μ-loop
-add-word c =
-    let a = c .before .before .before in
-    let b = a .before .before .args in
-    omega (arith, a .loop .inv .1, c .free-bit .ensures .1, free-fits (b .board .now) (b .n - a .loop .left) (b .start + a .loop .left) (omega arith))
-
-loop-less : tie.Need-loop-less Inv-loop μ-loop
-loop-less c = omega arith
-
-loop-again : tie.Need-loop-again Inv-loop μ-loop
-loop-again c =
-    let a = c .before .before .before in
-    (omega arith, free-more _ _ _ _ _ _ (omega arith) (omega arith) (a .loop .inv .1) (c .free-bit .ensures .0))
-
-returns : tie.Need-returns Inv-loop μ-loop
-returns c = free-all _ _ _ _ _ (omega arith) (c .before .loop .inv .1)
+returns-3 : tie.Need-returns-3
+returns-3 c = search needs
 
 pub free-word-spec : {M : Type 1} → statement M
 free-word-spec =
     tie.close
-    (tie.spec
-    Inv-loop
-    μ-loop
-    loop-holds
-    sub-left
-    mul-word
-    add-free-bit
-    shared-slice-read-free-bit
-    free-bit-requires
-    add-word
-    loop-less
-    loop-again
-    returns)
+    (tie.spec free-bits-requires returns held-bits-requires returns-2 free-bits-requires-2 returns-3)

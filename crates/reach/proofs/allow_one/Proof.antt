@@ -1,26 +1,30 @@
 -- `reach::allow_one` meets its contract: the sweeps that are left, with the row as it is, are the whole test of the row as it was.
 -- Assumes nothing.
-use Prim.Native.Nat.{_+_, _-_, _≤_}
+use Prim.Native.Nat.{ℕ, _+_, _*_, _-_, _≤_}
+use mathlib.Core.Path.{_≡_, refl, _∙_}
+use mathlib.Core.List.{List}
 use native.Mathlib.Omega.{arith}
-use lib.ListN.{getD}
-use Rattle.frees.specs.Frees.{rowsFree}
+use lib.ListN.{length, getD}
+use Rattle.frees.specs.Frees.{rowsFree, Runs}
 use Rattle.reach.proofs.AllowLaws.{Narrowing, narrowing-start, narrowing-turn, narrowing-end}
 use Rattle.reach.proofs.allow_one.Statement.{statement}
 use Rattle.reach.proofs.allow_one.Tie as tie
 
 abbrev Inv-loop : tie.InvT-loop
-Inv-loop allowed₀ frees sweeps m place count p₀ i₀ allowed p i = (i ≤ count) × Narrowing sweeps (rowsFree frees) allowed₀ allowed m place count p i
+Inv-loop allowed₀ runs sweeps m place count p₀ i₀ allowed p i =
+    (i ≤ count)
+    × ((length allowed ≡ length allowed₀) × ((p ≡ place + i * 3) × ((f : List ℕ) → Runs f runs 1280 → Narrowing sweeps (rowsFree f) allowed₀ allowed m place count p i)))
 
 abbrev μ-loop : tie.MeasureT-loop
-μ-loop allowed₀ frees sweeps m place count p₀ i₀ allowed p i = count - i
+μ-loop allowed₀ runs sweeps m place count p₀ i₀ allowed p i = count - i
 
 loop-holds : tie.Need-loop-holds Inv-loop μ-loop
-loop-holds c = (omega arith, narrowing-start _ _ _ _ _ _)
+loop-holds c = (omega arith, (refl, (omega arith, λ f r. narrowing-start _ _ _ _ _ _)))
 
 shared-slice-read-byte : tie.Need-shared-slice-read-byte Inv-loop μ-loop
 shared-slice-read-byte c =
     let start = c .before .before .before .before .before .before in
-    omega (arith, c .before .before .loop .inv .1 .at-place, start .pre .1 .long)
+    omega (arith, c .before .before .loop .inv .1 .1 .0, start .pre .1 .long)
 
 byte-requires : tie.Need-byte-requires Inv-loop μ-loop
 byte-requires c κs = omega arith
@@ -32,7 +36,7 @@ shared-slice-read-byte-2 : tie.Need-shared-slice-read-byte-2 Inv-loop μ-loop
 shared-slice-read-byte-2 c =
     let turn = c .before .before .before .before in
     let start = turn .before .before .before .before in
-    omega (arith, turn .loop .inv .1 .at-place, start .pre .1 .long)
+    omega (arith, turn .loop .inv .1 .1 .0, start .pre .1 .long)
 
 byte-requires-2 : tie.Need-byte-requires-2 Inv-loop μ-loop
 byte-requires-2 c κs = omega arith
@@ -44,7 +48,7 @@ shared-slice-read-byte-3 : tie.Need-shared-slice-read-byte-3 Inv-loop μ-loop
 shared-slice-read-byte-3 c =
     let turn = c .before .before .before .before .before .before in
     let start = turn .before .before .before .before in
-    omega (arith, turn .loop .inv .1 .at-place, start .pre .1 .long)
+    omega (arith, turn .loop .inv .1 .1 .0, start .pre .1 .long)
 
 byte-requires-3 : tie.Need-byte-requires-3 Inv-loop μ-loop
 byte-requires-3 c κs = omega arith
@@ -57,10 +61,10 @@ narrow-run-requires c κs =
     let i = turn .loop .inv .1 in
     let first = c .before .before .before .byte2 .ensures in
     let last = c .before .byte3 .ensures in
-    let place = i .at-place in
+    let place = i .1 .0 in
     let order = b .pre .1 .order (turn .loop .i) (omega arith) in
     let same : getD (b .args .sweeps .now) (turn .loop .p + 1) 0 ≤ getD (b .args .sweeps .now) (turn .loop .p + 2) 0 = rw place order in
-    (omega (arith, i .sized), (omega (arith, after-byte .byte .ensures), (omega (arith, first .0, last .0, same), omega (arith, last .1))))
+    ((omega (arith, i .0), (omega (arith, after-byte .byte .ensures), (omega (arith, first .0, last .0, same), omega (arith, last .1)))), b .pre .0 .1)
 
 add-p : tie.Need-add-p Inv-loop μ-loop
 add-p c = omega arith
@@ -77,18 +81,28 @@ loop-again c =
     let after-byte2 = after-byte3 .before .before in
     let after-byte = after-byte2 .before .before in
     let in-loop = after-byte .before .before in
-    let a = in-loop .before in (
+    let a = in-loop .before in
+    let i = a .loop .inv .1 in
+    let done = c .before .before .narrow-run .ensures in (
       omega arith,
-      narrowing-turn _ _ _ _ _ _ _ _ _ _ _ _ _ (in-loop .loop-test .taken)
-          (after-byte .byte .ensures .0) (after-byte2 .byte2 .ensures .0) (after-byte3 .byte3 .ensures .0)
-          (c .before .before .narrow-run .ensures) (a .loop .inv .1),
+      (
+        done .0 ∙ i .0,
+        (
+          omega (arith, i .1 .0),
+          λ f r. narrowing-turn _ _ _ _ _ _ _ _ _ _ _ _ _ (in-loop .loop-test .taken)
+              (after-byte .byte .ensures .0) (after-byte2 .byte2 .ensures .0) (after-byte3 .byte3 .ensures .0)
+              (done .1 f r) (i .1 .1 f r),
+        ),
+      ),
     )
 
 same-length : tie.Need-same-length Inv-loop μ-loop
-same-length c = c .before .loop .inv .1 .sized
+same-length c = c .before .loop .inv .1 .0
 
 returns : tie.Need-returns Inv-loop μ-loop
-returns c = narrowing-end _ _ _ _ _ _ _ _ _ (omega arith) (c .before .loop .inv .1)
+returns c =
+    let i = c .before .loop .inv .1 in
+    (i .0, λ f r. narrowing-end _ _ _ _ _ _ _ _ _ (omega arith) (i .1 .1 f r))
 
 pub allow-one-spec : {M : Type 1} → statement M
 allow-one-spec =

@@ -31,7 +31,7 @@ loop-less c = omega arith
 loop-again : tie.Need-loop-again Inv-loop μ-loop
 loop-again c =
     let turn = c .before .before .before .before .before in
-    (omega arith, tried-more _ _ _ _ _ _ _ (turn .loop .inv .1) (c .before .before .move-one .ensures))
+    (omega arith, tried-more _ _ _ _ _ _ _ (turn .loop .inv .1) (c .before .before .move-one .ensures .0))
 
 same-length : tie.Need-same-length Inv-loop μ-loop
 same-length c = c .before .loop .inv .1 .grown .sized

@@ -1,7 +1,7 @@
 -- `rounds::move_one` meets its contract: the row of `from` where the motion may begin, pushed into the row of `to`.
 -- Assumes nothing.
 use native.Mathlib.Omega.{arith}
-use Rattle.rounds.proofs.StepLaws.{move-step}
+use Rattle.rounds.proofs.StepLaws.{move-step, move-after}
 use Rattle.rounds.proofs.move_one.Statement.{statement}
 use Rattle.rounds.proofs.move_one.Tie as tie
 
@@ -94,9 +94,12 @@ returns c =
     let b = after-wide .before .before .before .before .before in
     let span = b .pre .0 .0 .span (b .args .m) (b .pre .0 .1) in
     let is-span = after-wide3 .wide3 .ensures in
-    let done = c .before .before .push .ensures in
-    move-step (b .args .moves .now) _ _ _ _ _ _ _ _ _ (after-wide .wide .ensures) (after-wide2 .wide2 .ensures) is-span (omega (arith, is-span, span))
-    (after-meet .meet .ensures) (done .0) (done .1)
+    let done = c .before .before .push .ensures in (
+      move-step (b .args .moves .now) _ _ _ _ _ _ _ _ _ (after-wide .wide .ensures) (after-wide2 .wide2 .ensures) is-span (omega (arith, is-span, span))
+          (after-meet .meet .ensures) (done .0) (done .1),
+      move-after (b .args .moves .now) _ _ _ _ _ _ _ _ _ (after-wide .wide .ensures) (after-wide2 .wide2 .ensures) is-span (omega (arith, is-span, span))
+          (after-meet .meet .ensures) (done .0) (done .1),
+    )
 
 pub move-one-spec : {M : Type 1} → statement M
 move-one-spec =

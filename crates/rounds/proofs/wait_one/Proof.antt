@@ -1,7 +1,7 @@
 -- `rounds::wait_one` meets its contract: a state that does not stand has no waits, and else the row is filled.
 -- Assumes nothing.
 use native.Mathlib.Omega.{arith}
-use Rattle.rounds.proofs.StepLaws.{wait-step, moving-step}
+use Rattle.rounds.proofs.StepLaws.{wait-step, wait-after, moving-step, moving-after}
 use Rattle.rounds.proofs.wait_one.Statement.{statement}
 use Rattle.rounds.proofs.wait_one.Tie as tie
 
@@ -22,7 +22,7 @@ shared-slice-read-if1 c =
 returns : tie.Need-returns
 returns c =
     let start = c .before .before .before .before .before in
-    moving-step (start .args .states .now) _ _ _ (c .if1 .taken)
+    (moving-step (start .args .states .now) _ _ _ (c .if1 .taken), moving-after (start .args .states .now) (start .args .frees .now) _ (start .args .s) (c .if1 .taken))
 
 mul-wide : tie.Need-mul-wide
 mul-wide c =
@@ -56,8 +56,10 @@ returns-2 c =
     let after-wide = c .before .before .before .before in
     let else1 = after-wide .before .before in
     let b = else1 .before .before .before .before .before .args in
-    let done = c .before .before .fill-row .ensures in
-    wait-step (b .states .now) _ _ _ _ _ _ (after-wide .wide .ensures) (else1 .if1 .left) (done .0) (done .1)
+    let done = c .before .before .fill-row .ensures in (
+      wait-step (b .states .now) _ _ _ _ _ _ (after-wide .wide .ensures) (else1 .if1 .left) (done .0) (done .1),
+      wait-after (b .states .now) _ _ _ _ _ _ (after-wide .wide .ensures) (else1 .if1 .left) (done .0) (done .1),
+    )
 
 pub wait-one-spec : {M : Type 1} → statement M
 wait-one-spec =

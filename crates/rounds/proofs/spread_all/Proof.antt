@@ -1,0 +1,68 @@
+-- `rounds::spread_all` meets its contract: every state below s was tried.
+-- Assumes nothing.
+use Prim.Native.Nat.{_-_, _≤_}
+use mathlib.Core.Path.{_≡_}
+use lib.ListN.{length}
+use Rattle.rows.specs.Rows.{has}
+use Rattle.rounds.specs.Rounds.{Closed, Going, Listed, Tried}
+use Rattle.rounds.proofs.StepLaws.{going-start, going-then}
+use borrow.Author.Needs.{needs}
+use native.Mathlib.Omega.{arith}
+use Rattle.rounds.proofs.spread_all.Statement.{statement}
+use Rattle.rounds.proofs.spread_all.Tie as tie
+
+abbrev Inv-loop : tie.InvT-loop
+Inv-loop states moves frees allowed reached₀ lists grown₀ n k turn s₀ reached grown s =
+    (s ≤ 256)
+    × Going (Closed n k states moves frees allowed) reached₀ reached
+    × (length grown ≡ 256)
+    × (Listed k moves lists → Tried n k states moves frees allowed grown₀ (has reached₀) → Tried n k states moves frees allowed grown (has reached))
+
+abbrev μ-loop : tie.MeasureT-loop
+μ-loop states moves frees allowed reached₀ lists grown₀ n k turn s₀ reached grown s = 256 - s
+
+loop-holds : tie.Need-loop-holds Inv-loop μ-loop
+loop-holds c = (omega arith, going-start _ _, c .before .before .before .before .before .pre .0 .1 .1, λ all tried. tried)
+
+in-turn-requires : tie.Need-in-turn-requires Inv-loop μ-loop
+in-turn-requires c κs = search needs
+
+spread-one-requires : tie.Need-spread-one-requires Inv-loop μ-loop
+spread-one-requires c κs =
+    let turn = c .before .before .before .before in
+    let start = turn .before .before .before .before .before .before in
+    let i = turn .loop .inv in
+    ((start .pre .0 .0, (start .pre .0 .1 .0, (c .before .before .in-turn .ensures, i .2))), (omega arith, (omega arith, omega (arith, i .1 .sized))))
+
+add-s : tie.Need-add-s Inv-loop μ-loop
+add-s c = search needs
+
+loop-less : tie.Need-loop-less Inv-loop μ-loop
+loop-less c = search needs
+
+loop-again : tie.Need-loop-again Inv-loop μ-loop
+loop-again c =
+    let i = c .before .before .before .before .before .before .before .loop .inv in
+    let e = c .before .before .spread-one .ensures in
+    (omega arith, going-then _ _ _ _ (i .1) (e .0), e .1 .0, λ all tried. e .1 .1 all (i .3 all tried))
+
+same-length : tie.Need-same-length Inv-loop μ-loop
+same-length c = search needs
+
+returns : tie.Need-returns Inv-loop μ-loop
+returns c = let i = c .before .loop .inv in (i .1, (i .2, i .3))
+
+pub spread-all-spec : {M : Type 1} → statement M
+spread-all-spec =
+    tie.close
+    (tie.spec
+    Inv-loop
+    μ-loop
+    loop-holds
+    in-turn-requires
+    spread-one-requires
+    add-s
+    loop-less
+    loop-again
+    same-length
+    returns)
