@@ -5,6 +5,7 @@ use libc::STDOUT_FILENO;
 use script::Opening;
 use script::Outcome;
 ghost use Prim.Native.Nat.{_≤_};
+ghost use mathlib.Core.Path.{_≡_};
 ghost use lib.ListN.{length};
 ghost use Rattle.io.specs.Counts.{Counts};
 ghost use Rattle.meaning.specs.Limits.{header, dayArea};
@@ -73,18 +74,26 @@ fn refuse(number: u8) {
     io::write_all(STDOUT_FILENO, &line[..n]);
 }
 
-fn main() {
-    let mut file = [0u8; 65537];
-    let mut area = [0u8; 65536];
-    let mut out = [0u8; 65536];
-    let mut words = [0u32; 16384];
-    let n = load(&mut file);
-    match script::start(&file[..n], &mut area) {
+// The program, over areas that are lent to it.
+fn obey(file: &mut [u8], area: &mut [u8], out: &mut [u8], words: &mut [u32])
+    requires { ⌜ length (now area) ≡ dayArea ⌝ }
+    requires { ⌜ Areas (length (now out)) (length (now words)) 0 ⌝ }
+{
+    let n = load(file);
+    match script::start(&file[..n], area) {
         Opening::Opened(size) => {
-            run(&file[..n], &mut area[..size], &mut out, &mut words);
+            run(&file[..n], &mut area[..size], out, words);
         }
         Opening::Refused(number) => {
             refuse(number);
         }
     }
+}
+
+fn main() {
+    let mut file = [0u8; 65537];
+    let mut area = [0u8; 65536];
+    let mut out = [0u8; 65536];
+    let mut words = [0u32; 16384];
+    obey(&mut file, &mut area, &mut out, &mut words);
 }
