@@ -80,7 +80,7 @@ pub fn explore(
     let cell = rounds::wide(states[start * 2]);
     if rows::is_set(frees, cell, tick) {
         rows::seed(&mut reached, start, tick);
-        rounds::settle(states, moves, frees, allowed, &mut reached, n, k);
+        spread::settle(states, moves, frees, allowed, &mut reached, n, k);
         return reached;
     }
     reached

@@ -31,7 +31,7 @@ or-right false b e = e
 
 -- ---- one step after another
 
-or-zero : (a b : ℕ) → bitOr a b ≡ 0 → (a ≡ 0) × (b ≡ 0)
+pub or-zero : (a b : ℕ) → bitOr a b ≡ 0 → (a ≡ 0) × (b ≡ 0)
 or-zero a b e = (omega (arith, or-add-and a b, and-le-l a b, and-le-r a b), omega (arith, or-add-and a b, and-le-l a b, and-le-r a b))
 
 or-pos : (a b : ℕ) → 0 < bitOr a b → a ≡ 0 → 0 < b
@@ -253,49 +253,13 @@ moving-step st fr l s ne =
 pub going-start : (C : Pairs → Type 0) (l : List ℕ) → Going C l l
 going-start C l = record { within = λ R c i. i; kept = λ s t h e. e; sized = refl }
 
-pub going-on : (C : Pairs → Type 0) (l₀ l l′ : List ℕ) (d : ℕ) → Going C l₀ l → Step C l l′ d → Going C l₀ l′
+going-on : (C : Pairs → Type 0) (l₀ l l′ : List ℕ) (d : ℕ) → Going C l₀ l → Step C l l′ d → Going C l₀ l′
 going-on C l₀ l l′ d g s =
     record {
       within = λ R c i. s .within R c (g .within R c i);
       kept = λ x t h e. s .kept x t h (g .kept x t h e);
       sized = s .grown .sized ∙ g .sized;
     }
-
-pub going-then : (C : Pairs → Type 0) (l₀ l l′ : List ℕ) → Going C l₀ l → Going C l l′ → Going C l₀ l′
-going-then C l₀ l l′ g h =
-    record {
-      within = λ R c i. h .within R c (g .within R c i);
-      kept = λ x t lt e. h .kept x t lt (g .kept x t lt e);
-      sized = h .sized ∙ g .sized;
-    }
-
-pub settled-after : (C : Pairs → Type 0) (l₀ l l′ : List ℕ) → Going C l₀ l → Settled C l l′ → Settled C l₀ l′
-settled-after C l₀ l l′ g h =
-    record {
-      within = λ R c i. h .within R c (g .within R c i);
-      kept = λ x t lt e. h .kept x t lt (g .kept x t lt e);
-      closed = h .closed;
-    }
-
--- closed under more
-pub going-more : (C D : Pairs → Type 0) → ((R : Pairs) → D R → C R) → (l₀ l : List ℕ) → Going C l₀ l → Going D l₀ l
-going-more C D f l₀ l g = record { within = λ R d. g .within R (f R d); kept = g .kept; sized = g .sized }
-
-pub going-one : (C : ℕ → Pairs → Type 0) (n i : ℕ) (l₀ l l′ : List ℕ) (d : ℕ) → i < n → Going (Below C n) l₀ l → Step (C i) l l′ d → Going (Below C n) l₀ l′
-going-one C n i l₀ l l′ d h g s =
-    record {
-      within = λ R c k. s .within R (c i h) (g .within R c k);
-      kept = λ x t lt e. s .kept x t lt (g .kept x t lt e);
-      sized = s .grown .sized ∙ g .sized;
-    }
-
--- some waits, and then some motions
-pub going-both : (n k : ℕ) (st mv fr al l l₁ l₂ : List ℕ) → Going (Below (WaitClosed st fr) n) l l₁ → Going (Below (MoveClosed mv al) k) l₁ l₂
-    → Going (Closed n k st mv fr al) l l₂
-going-both n k st mv fr al l l₁ l₂ w m =
-    going-then (Closed n k st mv fr al) l l₁ l₂
-    (going-more (Below (WaitClosed st fr) n) (Closed n k st mv fr al) (λ R c. c .0) l l₁ w)
-    (going-more (Below (MoveClosed mv al) k) (Closed n k st mv fr al) (λ R c. c .1) l₁ l₂ m)
 
 -- the bits still unset, as a number
 unfoldable pub unset : List ℕ → ℕ

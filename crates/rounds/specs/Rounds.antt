@@ -4,7 +4,7 @@ use Prim.Native.Nat.{ℕ, suc, _+_, _<_}
 use mathlib.Core.Path.{_≡_}
 use mathlib.Core.Bool.{Bool, true, false}
 use mathlib.Core.List.{List}
-use lib.ListN.{length, getD}
+use lib.ListN.{length}
 use Rattle.rows.specs.Rows.{has, Grown}
 use Rattle.rounds.specs.Arrays.{cellAt, speedAt, fromAt, toAt, spanAt}
 
@@ -42,6 +42,16 @@ pub record Step (C : Pairs → Type 0) (l₀ l : List ℕ) (d : ℕ) : Type 0 wh
   pub grown : Grown l₀ l d
   pub closed : d ≡ 0 → C (has l)
 
+-- what the waits in s leave: they are closed, and the other rows are as they were
+pub record Waited (st fr : List ℕ) (s : ℕ) (l₀ l : List ℕ) : Type 0 where
+  pub closed : WaitClosed st fr s (has l)
+  pub others : (x t : ℕ) → (x ≡ s → ⊥) → t < 1024 → has l x t ≡ has l₀ x t
+
+-- what motion m leaves: it is closed, if it leads to another state
+pub record Moved (mv al : List ℕ) (m : ℕ) (l₀ l : List ℕ) : Type 0 where
+  pub closed : (fromAt mv m ≡ toAt mv m → ⊥) → MoveClosed mv al m (has l)
+  pub others : (x t : ℕ) → (x ≡ toAt mv m → ⊥) → t < 1024 → has l x t ≡ has l₀ x t
+
 -- some steps: what they set stays inside every closed set that they began in, and they lose nothing
 pub record Going (C : Pairs → Type 0) (l₀ l : List ℕ) : Type 0 where
   pub within : (R : Pairs) → C R → Inside l₀ R → Inside l R
@@ -64,36 +74,3 @@ pub record Least (C : Pairs → Type 0) (s t : ℕ) (l : List ℕ) : Type 0 wher
 pub record Explored (C : Pairs → Type 0) (fr : List ℕ) (c s t : ℕ) (l : List ℕ) : Type 0 where
   pub found : has fr c t ≡ true → Least C s t l
   pub nothing : has fr c t ≡ false → (x u : ℕ) → u < 1024 → has l x u ≡ false
-
--- ---- state by state
-
--- what the waits in s leave: they are closed, and the other rows are as they were
-pub record Waited (st fr : List ℕ) (s : ℕ) (l₀ l : List ℕ) : Type 0 where
-  pub closed : WaitClosed st fr s (has l)
-  pub others : (x t : ℕ) → (x ≡ s → ⊥) → t < 1024 → has l x t ≡ has l₀ x t
-
--- what motion m leaves: it is closed, if it leads to another state
-pub record Moved (mv al : List ℕ) (m : ℕ) (l₀ l : List ℕ) : Type 0 where
-  pub closed : (fromAt mv m ≡ toAt mv m → ⊥) → MoveClosed mv al m (has l)
-  pub others : (x t : ℕ) → (x ≡ toAt mv m → ⊥) → t < 1024 → has l x t ≡ has l₀ x t
-
--- the list that starts at a has the motion m: behind each motion of it stands the next, which is a later one
-pub data Chain : List ℕ → ℕ → ℕ → ℕ → Type 0 where
-  here : {ls : List ℕ} {k m : ℕ} → m < k → Chain ls k m m
-  next : {ls : List ℕ} {k a m : ℕ} → a < k → a < getD ls a 0 → Chain ls k (getD ls a 0) m → Chain ls k a m
-
--- each of k motions is on the list of its state
-abbrev pub Listed : ℕ → List ℕ → List ℕ → Type 0
-Listed k mv ls = (m : ℕ) → m < k → Chain ls k (getD ls (2000 + fromAt mv m) 0) m
-
--- the motions from s are closed
-abbrev pub MovesClosed : ℕ → List ℕ → List ℕ → ℕ → Pairs → Type 0
-MovesClosed k mv al s R = (m : ℕ) → m < k → fromAt mv m ≡ s → MoveClosed mv al m R
-
--- where no growth is noted, waits and motions are closed
-abbrev pub Tried : ℕ → ℕ → List ℕ → List ℕ → List ℕ → List ℕ → List ℕ → Pairs → Type 0
-Tried n k st mv fr al g R = (s : ℕ) → s < 256 → getD g s 0 ≡ 0 → (s < n → WaitClosed st fr s R) × MovesClosed k mv al s R
-
--- where no growth is noted in g, none was noted in g₀, and the row is as it was
-abbrev pub Noted : List ℕ → List ℕ → List ℕ → List ℕ → Type 0
-Noted l₀ g₀ l g = (s : ℕ) → s < 256 → getD g s 0 ≡ 0 → (getD g₀ s 0 ≡ 0) × ((t : ℕ) → t < 1024 → has l s t ≡ has l₀ s t)

@@ -1,11 +1,9 @@
 // Rounds of waits and motions over sets of pairs of state and tick, until no pair is new.
 ghost use mathlib.Core.Path.{_≡_};
-ghost use mathlib.Core.Bool.{true};
-ghost use Prim.Native.Nat.{ℕ, _*_, _≤_, _<_};
-ghost use lib.ListN.{length, getD};
-ghost use Rattle.rows.specs.Rows.{has};
+ghost use Prim.Native.Nat.{_*_, _≤_, _<_};
+ghost use lib.ListN.{length};
 ghost use Rattle.rounds.specs.Arrays.{States, Motions};
-ghost use Rattle.rounds.specs.Rounds.{WaitClosed, MoveClosed, Below, Closed, Step, Going, Settled, Waited, Moved, Listed, MovesClosed, Tried, Noted};
+ghost use Rattle.rounds.specs.Rounds.{WaitClosed, MoveClosed, Below, Closed, Step, Settled, Waited, Moved};
 
 pub fn wide(x: u16) -> usize
     ensures { λ r. ⌜ r ≡ x ⌝ }
@@ -14,7 +12,7 @@ pub fn wide(x: u16) -> usize
 }
 
 // Sets what waits in state s reach. Answers 0 where nothing was new.
-fn wait_one(states: &[u16], frees: &[u64], reached: &mut [u64], n: usize, s: usize) -> u64
+pub fn wait_one(states: &[u16], frees: &[u64], reached: &mut [u64], n: usize, s: usize) -> u64
     requires { ⌜ States n (now states) × (s < n) ⌝ }
     requires { ⌜ (4096 ≤ length (now frees)) × (4096 ≤ length (now reached)) ⌝ }
     ensures { λ d. ⌜ Step (WaitClosed (now (states .entry)) (now (frees .entry)) s) (now (reached .entry)) (now (reached .exit)) d ⌝ }
@@ -28,7 +26,7 @@ fn wait_one(states: &[u16], frees: &[u64], reached: &mut [u64], n: usize, s: usi
 }
 
 // Sets what motion m reaches. Answers 0 where nothing was new.
-fn move_one(moves: &[u16], allowed: &[u64], reached: &mut [u64], k: usize, m: usize) -> u64
+pub fn move_one(moves: &[u16], allowed: &[u64], reached: &mut [u64], k: usize, m: usize) -> u64
     requires { ⌜ Motions k (now moves) × (m < k) ⌝ }
     requires { ⌜ (k * 16 ≤ length (now allowed)) × (4096 ≤ length (now reached)) ⌝ }
     ensures { λ d. ⌜ Step (MoveClosed (now (moves .entry)) (now (allowed .entry)) m) (now (reached .entry)) (now (reached .exit)) d ⌝ }
@@ -73,208 +71,8 @@ fn move_all(moves: &[u16], allowed: &[u64], reached: &mut [u64], k: usize) -> u6
     diff
 }
 
-// ---- state by state, so that few motions are tried in vain
-
-// Lists of the motions from each state, in rising order: at m stands the motion after m, at 2,000 + s the first one of s, and 2,000 ends a list.
-fn lists_of(moves: &[u16], k: usize) -> [u16; 2256]
-    requires { ⌜ Motions k (now moves) ⌝ }
-    ensures { λ r. ⌜ Listed k (now (moves .entry)) r ⌝ }
-{
-    let mut lists = [2000u16; 2256];
-    let mut m = k;
-    while 0 < m {
-        m -= 1;
-        let first = 2000 + wide(moves[m * 5]);
-        lists[m] = lists[first];
-        lists[first] = m as u16;
-    }
-    lists
-}
-
-// Tries the motions of the list of state s, and notes the states whose sets grow.
-fn move_from(
-    moves: &[u16],
-    allowed: &[u64],
-    reached: &mut [u64],
-    lists: &[u16; 2256],
-    grown: &mut [u64; 256],
-    k: usize,
-    s: usize,
-)
-    requires { ⌜ Motions k (now moves) × ((s < 256) × (length (now grown) ≡ 256)) ⌝ }
-    requires { ⌜ (k * 16 ≤ length (now allowed)) × (4096 ≤ length (now reached)) ⌝ }
-    ensures { λ _. ⌜ Going (Below (MoveClosed (now (moves .entry)) (now (allowed .entry))) k) (now (reached .entry)) (now (reached .exit)) ⌝ }
-    ensures { λ _. ⌜ (length (now (grown .exit)) ≡ 256) × Noted (now (reached .entry)) (now (grown .entry)) (now (reached .exit)) (now (grown .exit)) ⌝ }
-    ensures { λ _. ⌜ (Listed k (now (moves .entry)) (now (lists .entry)) → getD (now (grown .exit)) s 0 ≡ 0
-        → MovesClosed k (now (moves .entry)) (now (allowed .entry)) s (has (now (reached .exit)))) ⌝ }
-{
-    let mut m = wide(lists[2000 + s]);
-    while m < k {
-        let new = move_one(moves, allowed, reached, k, m);
-        let to = wide(moves[m * 5 + 1]);
-        grown[to] = grown[to] | new;
-        let after = wide(lists[m]);
-        if after <= m {
-            return;
-        }
-        m = after;
-    }
-}
-
-// The waits in s, if it is one of the n states.
-fn wait_in(states: &[u16], frees: &[u64], reached: &mut [u64], n: usize, s: usize)
-    requires { ⌜ States n (now states) × ((4096 ≤ length (now frees)) × (4096 ≤ length (now reached))) ⌝ }
-    ensures { λ _. ⌜ Going (Below (WaitClosed (now (states .entry)) (now (frees .entry))) n) (now (reached .entry)) (now (reached .exit)) ⌝ }
-    ensures { λ _. ⌜ (s < n → WaitClosed (now (states .entry)) (now (frees .entry)) s (has (now (reached .exit)))) ⌝ }
-    ensures { λ _. ⌜ ((x t : ℕ) → (x ≡ s → ⊥) → t < 1024 → has (now (reached .exit)) x t ≡ has (now (reached .entry)) x t) ⌝ }
-{
-    if n <= s {
-        return;
-    }
-    wait_one(states, frees, reached, n, s);
-}
-
-// Tries the waits and the motions of state s, if its set has grown since the last time.
-fn spread_one(
-    states: &[u16],
-    moves: &[u16],
-    frees: &[u64],
-    allowed: &[u64],
-    reached: &mut [u64],
-    lists: &[u16; 2256],
-    grown: &mut [u64; 256],
-    n: usize,
-    k: usize,
-    s: usize,
-)
-    requires { ⌜ States n (now states) × (Motions k (now moves) × ((s < 256) × (length (now grown) ≡ 256))) ⌝ }
-    requires { ⌜ (4096 ≤ length (now frees)) × ((k * 16 ≤ length (now allowed)) × (4096 ≤ length (now reached))) ⌝ }
-    ensures { λ _. ⌜ Going (Closed n k (now (states .entry)) (now (moves .entry)) (now (frees .entry)) (now (allowed .entry)))
-        (now (reached .entry)) (now (reached .exit)) ⌝ }
-    ensures { λ _. ⌜ length (now (grown .exit)) ≡ 256 ⌝ }
-    ensures { λ _. ⌜ (Listed k (now (moves .entry)) (now (lists .entry))
-        → Tried n k (now (states .entry)) (now (moves .entry)) (now (frees .entry)) (now (allowed .entry)) (now (grown .entry)) (has (now (reached .entry)))
-        → Tried n k (now (states .entry)) (now (moves .entry)) (now (frees .entry)) (now (allowed .entry)) (now (grown .exit)) (has (now (reached .exit)))) ⌝ }
-{
-    if grown[s] == 0 {
-        return;
-    }
-    grown[s] = 0;
-    if rows::bits(reached, s) == 0 {
-        return;
-    }
-    wait_in(states, frees, reached, n, s);
-    move_from(moves, allowed, reached, lists, grown, k, s);
-}
-
-// State s of 256, counted from the other end where the turn is odd.
-fn in_turn(s: usize, turn: usize) -> usize
-    requires { ⌜ s < 256 ⌝ }
-    ensures { λ r. ⌜ r < 256 ⌝ }
-{
-    if turn % 2 == 0 {
-        return s;
-    }
-    255 - s
-}
-
-// Tries every state, up or down in turn.
-fn spread_all(
-    states: &[u16],
-    moves: &[u16],
-    frees: &[u64],
-    allowed: &[u64],
-    reached: &mut [u64],
-    lists: &[u16; 2256],
-    grown: &mut [u64; 256],
-    n: usize,
-    k: usize,
-    turn: usize,
-)
-    requires { ⌜ States n (now states) × (Motions k (now moves) × (length (now grown) ≡ 256)) ⌝ }
-    requires { ⌜ (4096 ≤ length (now frees)) × ((k * 16 ≤ length (now allowed)) × (4096 ≤ length (now reached))) ⌝ }
-    ensures { λ _. ⌜ Going (Closed n k (now (states .entry)) (now (moves .entry)) (now (frees .entry)) (now (allowed .entry)))
-        (now (reached .entry)) (now (reached .exit)) ⌝ }
-    ensures { λ _. ⌜ length (now (grown .exit)) ≡ 256 ⌝ }
-    ensures { λ _. ⌜ (Listed k (now (moves .entry)) (now (lists .entry))
-        → Tried n k (now (states .entry)) (now (moves .entry)) (now (frees .entry)) (now (allowed .entry)) (now (grown .entry)) (has (now (reached .entry)))
-        → Tried n k (now (states .entry)) (now (moves .entry)) (now (frees .entry)) (now (allowed .entry)) (now (grown .exit)) (has (now (reached .exit)))) ⌝ }
-{
-    let mut s = 0;
-    while s < 256 {
-        let x = in_turn(s, turn);
-        spread_one(
-            states,
-            moves,
-            frees,
-            allowed,
-            reached,
-            lists,
-            grown,
-            n,
-            k,
-            x,
-        );
-        s += 1;
-    }
-}
-
-// No set has grown.
-fn none_grown(grown: &[u64; 256]) -> bool
-    ensures { λ r. ⌜ (r ≡ true → ((s : ℕ) → s < 256 → getD (now (grown .entry)) s 0 ≡ 0)) ⌝ }
-{
-    let mut s = 0;
-    while s < 256 {
-        if grown[s] != 0 {
-            return false;
-        }
-        s += 1;
-    }
-    true
-}
-
-// Tries the states whose sets have grown until there are none, 1,000 times at most. Answers whether nothing is left to try.
-fn spread(
-    states: &[u16],
-    moves: &[u16],
-    frees: &[u64],
-    allowed: &[u64],
-    reached: &mut [u64],
-    n: usize,
-    k: usize,
-) -> bool
-    requires { ⌜ States n (now states) × Motions k (now moves) ⌝ }
-    requires { ⌜ (4096 ≤ length (now frees)) × ((k * 16 ≤ length (now allowed)) × (4096 ≤ length (now reached))) ⌝ }
-    ensures { λ _. ⌜ Going (Closed n k (now (states .entry)) (now (moves .entry)) (now (frees .entry)) (now (allowed .entry)))
-        (now (reached .entry)) (now (reached .exit)) ⌝ }
-    ensures { λ r. ⌜ (r ≡ true → Closed n k (now (states .entry)) (now (moves .entry)) (now (frees .entry)) (now (allowed .entry)) (has (now (reached .exit)))) ⌝ }
-{
-    let lists = lists_of(moves, k);
-    let mut grown = [1u64; 256];
-    let mut left: usize = 1000;
-    while 0 < left {
-        if none_grown(&grown) {
-            return true;
-        }
-        spread_all(
-            states,
-            moves,
-            frees,
-            allowed,
-            reached,
-            &lists,
-            &mut grown,
-            n,
-            k,
-            left,
-        );
-        left -= 1;
-    }
-    false
-}
-
-// All waits and all motions until nothing new is set: state by state, and, should that come to no end, in rounds.
-pub fn settle(
+// Rounds of all waits and all motions until nothing new is set.
+pub fn to_fixed_point(
     states: &[u16],
     moves: &[u16],
     frees: &[u64],
@@ -288,9 +86,6 @@ pub fn settle(
     ensures { λ _. ⌜ Settled (Closed n k (now (states .entry)) (now (moves .entry)) (now (frees .entry)) (now (allowed .entry)))
         (now (reached .entry)) (now (reached .exit)) ⌝ }
 {
-    if spread(states, moves, frees, allowed, reached, n, k) {
-        return;
-    }
     loop {
         let waits = wait_all(states, frees, reached, n);
         let motions = move_all(moves, allowed, reached, k);

@@ -5,15 +5,17 @@ use native.Mathlib.Omega.{arith}
 use mathlib.Core.Path.{_≡_, refl, sym, ap, _∙_, subst}
 use mathlib.Core.Bool.{false, false≢true}
 use mathlib.Core.List.{List}
-use lib.Bits.{bitOr, or-add-and, and-le-l, and-le-r}
+use lib.Bits.{bitOr}
 use lib.Dec.{eqb}
 use lib.ListN.{length, getD, set, replicate, length-set, length-replicate, getD-replicate}
 use lib.Seq.{getD-set-same, getD-set-other}
 use borrow.Author.Tests.{eqb-true, eqb-false}
 use Rattle.meaning.proofs.BasicsLaws.{decide}
 use Rattle.rows.specs.Rows.{has}
 use Rattle.rounds.specs.Arrays.{fromAt, toAt, spanAt, Motions}
-use Rattle.rounds.specs.Rounds.{WaitClosed, MoveClosed, Closed, Inside, Step, Moved, Chain, here, next, Listed, MovesClosed, Tried, Noted}
+use Rattle.rounds.specs.Rounds.{WaitClosed, MoveClosed, Closed, Inside, Step, Moved}
+use Rattle.rounds.proofs.StepLaws.{or-zero}
+use Rattle.spread.specs.Spread.{Chain, here, next, Listed, MovesClosed, Tried, Noted}
 
 -- ---- the lists, filled from the last motion down
 
@@ -154,9 +156,6 @@ none-more g s h e x lt =
 pub data Either (A B : Type 0) : Type 0 where
   done : A → Either A B
   later : B → Either A B
-
-or-zero : (a b : ℕ) → bitOr a b ≡ 0 → (a ≡ 0) × (b ≡ 0)
-or-zero a b e = (omega (arith, or-add-and a b, and-le-l a b, and-le-r a b), omega (arith, or-add-and a b, and-le-l a b, and-le-r a b))
 
 pub noted-start : (l g : List ℕ) → Noted l g l g
 noted-start l g s h e = (e, λ t lt. refl)

@@ -1,14 +1,14 @@
--- `rounds::none_grown` meets its contract: no growth is noted below s.
+-- `spread::none_grown` meets its contract: no growth is noted below s.
 -- Assumes nothing.
 use Prim.Native.Nat.{ℕ, _-_, _≤_, _<_}
 use mathlib.Core.Path.{_≡_}
 use mathlib.Core.Bool.{false≢true}
 use lib.ListN.{getD}
-use Rattle.rounds.proofs.ListLaws.{none-more}
+use Rattle.spread.proofs.ListLaws.{none-more}
 use borrow.Author.Needs.{needs}
 use native.Mathlib.Omega.{arith}
-use Rattle.rounds.proofs.none_grown.Statement.{statement}
-use Rattle.rounds.proofs.none_grown.Tie as tie
+use Rattle.spread.proofs.none_grown.Statement.{statement}
+use Rattle.spread.proofs.none_grown.Tie as tie
 
 abbrev Inv-loop : tie.InvT-loop
 Inv-loop grown s₀ s = (s ≤ 256) × ((x : ℕ) → x < s → getD grown x 0 ≡ 0)

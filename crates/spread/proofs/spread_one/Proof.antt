@@ -1,12 +1,13 @@
--- `rounds::spread_one` meets its contract: by cases of its tests, and then waits before motions.
+-- `spread::spread_one` meets its contract: by cases of its tests, and then waits before motions.
 -- Assumes nothing.
 use lib.ListN.{length-set}
-use Rattle.rounds.proofs.StepLaws.{going-start, going-both}
-use Rattle.rounds.proofs.ListLaws.{tried-empty, tried-state}
+use Rattle.rounds.proofs.StepLaws.{going-start}
+use Rattle.spread.proofs.GoingLaws.{going-both}
+use Rattle.spread.proofs.ListLaws.{tried-empty, tried-state}
 use native.Mathlib.Omega.{arith}
 use borrow.Author.Needs.{needs}
-use Rattle.rounds.proofs.spread_one.Statement.{statement}
-use Rattle.rounds.proofs.spread_one.Tie as tie
+use Rattle.spread.proofs.spread_one.Statement.{statement}
+use Rattle.spread.proofs.spread_one.Tie as tie
 
 mul-if1 : tie.Need-mul-if1
 mul-if1 c = search needs

@@ -1,15 +1,17 @@
--- `rounds::move_from` meets its contract: the motions of the list before m are closed, unless growth of s itself is noted.
+-- `spread::move_from` meets its contract: the motions of the list before m are closed, unless growth of s itself is noted.
 -- Assumes nothing.
 use Prim.Native.Nat.{_-_}
 use borrow.Author.Needs.{needs}
 use native.Mathlib.Omega.{arith}
 use mathlib.Core.Path.{_≡_}
 use lib.ListN.{length, length-set}
-use Rattle.rounds.specs.Rounds.{MoveClosed, Below, Going, Noted}
-use Rattle.rounds.proofs.ListLaws.{Walked, noted-start, noted-more, walked-start, walked-more, walked-last, walked-end, listed-from}
-use Rattle.rounds.proofs.StepLaws.{going-start, going-one}
-use Rattle.rounds.proofs.move_from.Statement.{statement}
-use Rattle.rounds.proofs.move_from.Tie as tie
+use Rattle.rounds.specs.Rounds.{MoveClosed, Below, Going}
+use Rattle.spread.specs.Spread.{Noted}
+use Rattle.spread.proofs.ListLaws.{Walked, noted-start, noted-more, walked-start, walked-more, walked-last, walked-end, listed-from}
+use Rattle.rounds.proofs.StepLaws.{going-start}
+use Rattle.spread.proofs.GoingLaws.{going-one}
+use Rattle.spread.proofs.move_from.Statement.{statement}
+use Rattle.spread.proofs.move_from.Tie as tie
 
 abbrev Inv-loop : tie.InvT-loop
 Inv-loop moves allowed reached₀ lists grown₀ k s m₀ reached grown m =

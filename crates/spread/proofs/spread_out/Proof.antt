@@ -1,17 +1,19 @@
--- `rounds::spread` meets its contract: where no growth is noted, waits and motions are closed.
+-- `spread::spread_out` meets its contract: where no growth is noted, waits and motions are closed.
 -- Assumes nothing.
 use mathlib.Core.Path.{_≡_}
 use mathlib.Core.Bool.{false≢true}
 use lib.ListN.{length, length-replicate}
 use Prim.Native.Nat.{ℕ}
 use Rattle.rows.specs.Rows.{has}
-use Rattle.rounds.specs.Rounds.{Closed, Going, Tried}
-use Rattle.rounds.proofs.StepLaws.{going-start, going-then}
-use Rattle.rounds.proofs.ListLaws.{tried-start, tried-closed}
+use Rattle.rounds.specs.Rounds.{Closed, Going}
+use Rattle.spread.specs.Spread.{Tried}
+use Rattle.rounds.proofs.StepLaws.{going-start}
+use Rattle.spread.proofs.GoingLaws.{going-then}
+use Rattle.spread.proofs.ListLaws.{tried-start, tried-closed}
 use borrow.Author.Needs.{needs}
 use native.Mathlib.Omega.{arith}
-use Rattle.rounds.proofs.spread.Statement.{statement}
-use Rattle.rounds.proofs.spread.Tie as tie
+use Rattle.spread.proofs.spread_out.Statement.{statement}
+use Rattle.spread.proofs.spread_out.Tie as tie
 
 abbrev Inv-loop : tie.InvT-loop
 Inv-loop states moves frees allowed reached₀ n k lists grown₀ left₀ reached grown left =
@@ -66,8 +68,8 @@ same-length-2 c = search needs
 returns-2 : tie.Need-returns-2 Inv-loop μ-loop
 returns-2 c = (c .before .loop .inv .0, λ e. absurd (false≢true e))
 
-pub spread-spec : {M : Type 1} → statement M
-spread-spec =
+pub spread-out-spec : {M : Type 1} → statement M
+spread-out-spec =
     tie.close
     (tie.spec
     Inv-loop

@@ -1,11 +1,11 @@
--- `rounds::lists_of` meets its contract: the motions from m on are on their lists.
+-- `spread::lists_of` meets its contract: the motions from m on are on their lists.
 -- Assumes nothing.
 use Prim.Native.Nat.{_≤_, _-_}
 use borrow.Author.Needs.{needs}
 use native.Mathlib.Omega.{arith}
-use Rattle.rounds.proofs.ListLaws.{Listing, listing-none, listing-more, listing-all}
-use Rattle.rounds.proofs.lists_of.Statement.{statement}
-use Rattle.rounds.proofs.lists_of.Tie as tie
+use Rattle.spread.proofs.ListLaws.{Listing, listing-none, listing-more, listing-all}
+use Rattle.spread.proofs.lists_of.Statement.{statement}
+use Rattle.spread.proofs.lists_of.Tie as tie
 
 abbrev Inv-loop : tie.InvT-loop
 Inv-loop moves k lists₀ m₀ lists m = (m ≤ k) × Listing k moves lists m

@@ -1,15 +1,17 @@
--- `rounds::spread_all` meets its contract: every state below s was tried.
+-- `spread::spread_all` meets its contract: every state below s was tried.
 -- Assumes nothing.
 use Prim.Native.Nat.{_-_, _≤_}
 use mathlib.Core.Path.{_≡_}
 use lib.ListN.{length}
 use Rattle.rows.specs.Rows.{has}
-use Rattle.rounds.specs.Rounds.{Closed, Going, Listed, Tried}
-use Rattle.rounds.proofs.StepLaws.{going-start, going-then}
+use Rattle.rounds.specs.Rounds.{Closed, Going}
+use Rattle.spread.specs.Spread.{Listed, Tried}
+use Rattle.rounds.proofs.StepLaws.{going-start}
+use Rattle.spread.proofs.GoingLaws.{going-then}
 use borrow.Author.Needs.{needs}
 use native.Mathlib.Omega.{arith}
-use Rattle.rounds.proofs.spread_all.Statement.{statement}
-use Rattle.rounds.proofs.spread_all.Tie as tie
+use Rattle.spread.proofs.spread_all.Statement.{statement}
+use Rattle.spread.proofs.spread_all.Tie as tie
 
 abbrev Inv-loop : tie.InvT-loop
 Inv-loop states moves frees allowed reached₀ lists grown₀ n k turn s₀ reached grown s =

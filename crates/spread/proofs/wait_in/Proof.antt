@@ -1,12 +1,13 @@
--- `rounds::wait_in` meets its contract: there are no waits in a state that is none.
+-- `spread::wait_in` meets its contract: there are no waits in a state that is none.
 -- Assumes nothing.
 use mathlib.Core.Path.{refl}
 use Rattle.rounds.specs.Rounds.{WaitClosed}
-use Rattle.rounds.proofs.StepLaws.{going-start, going-one}
+use Rattle.rounds.proofs.StepLaws.{going-start}
+use Rattle.spread.proofs.GoingLaws.{going-one}
 use native.Mathlib.Omega.{arith}
 use borrow.Author.Needs.{needs}
-use Rattle.rounds.proofs.wait_in.Statement.{statement}
-use Rattle.rounds.proofs.wait_in.Tie as tie
+use Rattle.spread.proofs.wait_in.Statement.{statement}
+use Rattle.spread.proofs.wait_in.Tie as tie
 
 returns : tie.Need-returns
 returns c = (going-start _ _, (λ lt. absurd (omega arith), λ x t ne h. refl))

@@ -1,0 +1,30 @@
+-- Lists of the motions by state, and what is closed where no growth of a row is noted.
+-- Assumes nothing.
+use Prim.Native.Nat.{ℕ, _+_, _<_}
+use mathlib.Core.Path.{_≡_}
+use mathlib.Core.List.{List}
+use lib.ListN.{getD}
+use Rattle.rows.specs.Rows.{has}
+use Rattle.rounds.specs.Arrays.{fromAt}
+use Rattle.rounds.specs.Rounds.{Pairs, WaitClosed, MoveClosed}
+
+-- the list that starts at a has the motion m: behind each motion of it stands the next, which is a later one
+pub data Chain : List ℕ → ℕ → ℕ → ℕ → Type 0 where
+  here : {ls : List ℕ} {k m : ℕ} → m < k → Chain ls k m m
+  next : {ls : List ℕ} {k a m : ℕ} → a < k → a < getD ls a 0 → Chain ls k (getD ls a 0) m → Chain ls k a m
+
+-- each of k motions is on the list of its state
+abbrev pub Listed : ℕ → List ℕ → List ℕ → Type 0
+Listed k mv ls = (m : ℕ) → m < k → Chain ls k (getD ls (2000 + fromAt mv m) 0) m
+
+-- the motions from s are closed
+abbrev pub MovesClosed : ℕ → List ℕ → List ℕ → ℕ → Pairs → Type 0
+MovesClosed k mv al s R = (m : ℕ) → m < k → fromAt mv m ≡ s → MoveClosed mv al m R
+
+-- where no growth is noted, waits and motions are closed
+abbrev pub Tried : ℕ → ℕ → List ℕ → List ℕ → List ℕ → List ℕ → List ℕ → Pairs → Type 0
+Tried n k st mv fr al g R = (s : ℕ) → s < 256 → getD g s 0 ≡ 0 → (s < n → WaitClosed st fr s R) × MovesClosed k mv al s R
+
+-- where no growth is noted in g, none was noted in g₀, and the row is as it was
+abbrev pub Noted : List ℕ → List ℕ → List ℕ → List ℕ → Type 0
+Noted l₀ g₀ l g = (s : ℕ) → s < 256 → getD g s 0 ≡ 0 → (getD g₀ s 0 ≡ 0) × ((t : ℕ) → t < 1024 → has l s t ≡ has l₀ s t)
