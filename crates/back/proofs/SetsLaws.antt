@@ -8,8 +8,8 @@ use Rattle.meaning.specs.Board.{free}
 use Rattle.meaning.specs.WellFormed.{WellFormed}
 use Rattle.meaning.specs.Plan.{node}
 use Rattle.frees.specs.Frees.{rowsFree}
-use Rattle.rounds.specs.Arrays.{cellAt}
-use Rattle.rounds.specs.Rounds.{Closed, Explored}
+use Rattle.moves.specs.Arrays.{cellAt}
+use Rattle.moves.specs.Sets.{Closed, Explored}
 use Rattle.reach.specs.Decoded.{Decoded, Starts}
 use Rattle.reach.proofs.RightLaws.{has-free, may-start, explored-right}
 use Rattle.back.specs.Words.{Sets}

@@ -19,7 +19,7 @@ use Rattle.meaning.specs.WellFormed.{WellFormed}
 use Rattle.meaning.proofs.BasicsLaws.{decide, and-left, and-right, every-at, every-nil, every-cons, least-same, least-snoc, least-more, same-test}
 use Rattle.meaning.proofs.ReachLaws.{waited, arrives, word-first, word-next, word-row}
 use Rattle.rows.specs.Rows.{has}
-use Rattle.rounds.specs.Arrays.{cellAt, speedAt, fromAt, toAt, spanAt}
+use Rattle.moves.specs.Arrays.{cellAt, speedAt, fromAt, toAt, spanAt}
 use Rattle.reach.specs.Decoded.{reachedAt, ReachedRows}
 use Rattle.reach.proofs.RightLaws.{wait-made, wait-stands, wait-both, move-made, move-free}
 use Rattle.back.specs.Words.{waitHit, moveHit, firstMove, wordAt, arrivalIn, Sets}

@@ -12,7 +12,7 @@ use Rattle.meaning.specs.Board.{Free}
 use Rattle.meaning.specs.Plan.{Node, sweepsFree}
 use Rattle.meaning.specs.Reach.{wordBy, rowsTo, wordIn}
 use Rattle.rows.specs.Rows.{has}
-use Rattle.rounds.specs.Arrays.{cellAt, speedAt, fromAt, toAt, spanAt}
+use Rattle.moves.specs.Arrays.{cellAt, speedAt, fromAt, toAt, spanAt}
 use Rattle.reach.specs.Decoded.{Decoded, ReachedRows}
 
 -- a wait of one tick ends in (s, t) and begins in the set

@@ -11,7 +11,7 @@ ghost use Rattle.meaning.specs.Board.{Free};
 ghost use Rattle.meaning.specs.WellFormed.{WellFormed};
 ghost use Rattle.meaning.specs.Reach.{wordBy, reachWord};
 ghost use Rattle.meaning.specs.Plan.{node};
-ghost use Rattle.rounds.specs.Arrays.{States, Motions};
+ghost use Rattle.moves.specs.Arrays.{States, Motions};
 ghost use Rattle.reach.specs.Decoded.{ReachedRows};
 ghost use Rattle.back.specs.Words.{waitHit, moveHit, firstMove, arrivalIn, Sets};
 
@@ -42,7 +42,7 @@ fn wait_hit(states: &[u16], frees: &[u64], reached: &[u64], n: usize, s: usize, 
     if states[s * 2 + 1] != 0 {
         return false;
     }
-    let cell = rounds::wide(states[s * 2]);
+    let cell = moves::wide(states[s * 2]);
     let before = rows::is_set(reached, s, t - 1);
     let left = rows::is_set(frees, cell, t - 1);
     let here = rows::is_set(frees, cell, t);
@@ -63,15 +63,15 @@ fn move_hit(
     requires { ⌜ (k * 16 ≤ length (now allowed)) × (4096 ≤ length (now reached)) ⌝ }
     ensures { λ r. ⌜ r ≡ moveHit (now (moves .entry)) (now (allowed .entry)) (now (reached .entry)) s t m ⌝ }
 {
-    let to = rounds::wide(moves[m * 5 + 1]);
+    let to = moves::wide(moves[m * 5 + 1]);
     if to != s {
         return false;
     }
-    let span = rounds::wide(moves[m * 5 + 2]);
+    let span = moves::wide(moves[m * 5 + 2]);
     if t < span {
         return false;
     }
-    let from = rounds::wide(moves[m * 5]);
+    let from = moves::wide(moves[m * 5]);
     let before = rows::is_set(reached, from, t - span);
     let may = rows::is_set(allowed, m, t - span);
     before & may

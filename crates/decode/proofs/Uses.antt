@@ -16,7 +16,7 @@ use Rattle.sweeps.proofs.Laws.{sweeps-length, sweeps-at}
 use Rattle.site.specs.declared.Move.{Move}
 use Rattle.site.specs.Motions.{Shows}
 use Rattle.site.proofs.Laws.{Reached, reached-more, reached-place}
-use Rattle.rounds.specs.Arrays.{States, Motions, placeAt, countAt}
+use Rattle.moves.specs.Arrays.{States, Motions, placeAt, countAt}
 use Rattle.reach.specs.Decoded.{Decoded, SweepsIn, Sweeps}
 use Rattle.decode.specs.Decodes.{StatesHeld, Small, moveAt, MotionsHeld}
 use Rattle.decode.proofs.Laws.{same-sweeps}

@@ -5,7 +5,7 @@ use mathlib.Core.Path.{_≡_}
 use mathlib.Core.List.{List}
 use lib.ListN.{length, set}
 use Rattle.meaning.specs.Site.{siteOf, stateAt, motionAt}
-use Rattle.rounds.specs.Arrays.{cellAt, speedAt, fromAt, toAt, spanAt, placeAt, countAt}
+use Rattle.moves.specs.Arrays.{cellAt, speedAt, fromAt, toAt, spanAt, placeAt, countAt}
 use Rattle.site.specs.Motions.{Shows}
 use Rattle.site.specs.declared.Move.{Move}
 

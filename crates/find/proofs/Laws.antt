@@ -19,8 +19,8 @@ use Rattle.meaning.proofs.TraceLaws.{found-steps}
 use Rattle.meaning.specs.Plan.{node}
 use Rattle.site.specs.declared.Layout.{Layout}
 use Rattle.frees.specs.Frees.{rowsFree}
-use Rattle.rounds.specs.Arrays.{cellAt, States, Motions}
-use Rattle.rounds.specs.Rounds.{Closed, Explored}
+use Rattle.moves.specs.Arrays.{cellAt, States, Motions}
+use Rattle.moves.specs.Sets.{Closed, Explored}
 use Rattle.reach.specs.Decoded.{Sweeps, Starts, ReachedRows}
 use Rattle.back.specs.Words.{arrivalIn, Sets}
 use Rattle.back.proofs.SetsLaws.{sets-right}

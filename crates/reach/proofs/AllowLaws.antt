@@ -20,7 +20,7 @@ use Rattle.rows.proofs.BitLaws.{odd-of}
 use Rattle.rows.proofs.RowLaws.{has-is}
 use Rattle.frees.specs.Frees.{rowsFree}
 use Rattle.reach.specs.Decoded.{sweepsAt, sweepsOf, Starts}
-use Rattle.rounds.specs.Arrays.{placeAt, countAt}
+use Rattle.moves.specs.Arrays.{placeAt, countAt}
 
 -- ---- the sweeps of one motion: what is left to test, with the row as it is, is the whole test of the row as it was
 

@@ -22,8 +22,8 @@ use Rattle.meaning.proofs.MotionLaws.{good-at}
 use Rattle.rows.specs.Rows.{has}
 use Rattle.frees.specs.Frees.{rowsFree}
 use Rattle.reach.specs.Decoded.{Decoded, Starts, reachedAt}
-use Rattle.rounds.specs.Arrays.{cellAt, fromAt}
-use Rattle.rounds.specs.Rounds.{Pairs, WaitClosed, MoveClosed, Below, Closed, Least, Explored}
+use Rattle.moves.specs.Arrays.{cellAt, fromAt}
+use Rattle.moves.specs.Sets.{Pairs, WaitClosed, MoveClosed, Below, Closed, Least, Explored}
 
 -- ---- what is allowed
 

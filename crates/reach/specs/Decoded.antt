@@ -10,7 +10,7 @@ use Rattle.meaning.specs.Site.{Site, Sweep, stateAt, motionAt}
 use Rattle.meaning.specs.Board.{Free}
 use Rattle.meaning.specs.Plan.{Node, sweepsFree}
 use Rattle.meaning.specs.Reach.{reached}
-use Rattle.rounds.specs.Arrays.{cellAt, speedAt, fromAt, toAt, spanAt, placeAt, countAt}
+use Rattle.moves.specs.Arrays.{cellAt, speedAt, fromAt, toAt, spanAt, placeAt, countAt}
 use Rattle.rows.specs.Rows.{has}
 use Rattle.frees.specs.Frees.{rowsFree}
 

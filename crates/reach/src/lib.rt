@@ -7,8 +7,8 @@ ghost use Rattle.meaning.specs.Plan.{sweepsFree};
 ghost use mathlib.Core.List.{List};
 ghost use Rattle.rows.specs.Rows.{has, Words, Changed};
 ghost use Rattle.frees.specs.Frees.{rowsFree, Runs};
-ghost use Rattle.rounds.specs.Arrays.{cellAt, States, Motions};
-ghost use Rattle.rounds.specs.Rounds.{Closed, Explored};
+ghost use Rattle.moves.specs.Arrays.{cellAt, States, Motions};
+ghost use Rattle.moves.specs.Sets.{Closed, Explored};
 ghost use Rattle.reach.specs.Decoded.{sweepsAt, SweepsIn, Sweeps, Starts};
 
 fn byte(x: u8) -> usize
@@ -50,8 +50,8 @@ pub fn allow_all(allowed: &mut [u64], frees: &[u64], moves: &[u16], sweeps: &[u8
     frees::fill_runs(&mut runs, frees);
     let mut m = 0;
     while m < k {
-        let place = rounds::wide(moves[m * 5 + 3]);
-        let count = rounds::wide(moves[m * 5 + 4]);
+        let place = moves::wide(moves[m * 5 + 3]);
+        let count = moves::wide(moves[m * 5 + 4]);
         allow_one(allowed, &runs, sweeps, m, place, count);
         m += 1;
     }
@@ -77,7 +77,7 @@ pub fn explore(
         (now (frees .entry)) (cellAt (now (states .entry)) start) start tick l ⌝ }
 {
     let mut reached = [0u64; 4096];
-    let cell = rounds::wide(states[start * 2]);
+    let cell = moves::wide(states[start * 2]);
     if rows::is_set(frees, cell, tick) {
         rows::seed(&mut reached, start, tick);
         spread::settle(states, moves, frees, allowed, &mut reached, n, k);

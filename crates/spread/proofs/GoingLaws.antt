@@ -1,9 +1,12 @@
 -- Some steps after others: what they set stays inside every closed set that they began in.
 -- Assumes nothing.
 use Prim.Native.Nat.{ℕ, _<_}
-use mathlib.Core.Path.{_∙_}
+use mathlib.Core.Path.{refl, _∙_}
 use mathlib.Core.List.{List}
-use Rattle.rounds.specs.Rounds.{Pairs, WaitClosed, MoveClosed, Below, Closed, Step, Going, Settled}
+use Rattle.moves.specs.Sets.{Pairs, WaitClosed, MoveClosed, Below, Closed, Step, Going}
+
+pub going-start : (C : Pairs → Type 0) (l : List ℕ) → Going C l l
+going-start C l = record { within = λ R c i. i; kept = λ s t h e. e; sized = refl }
 
 pub going-then : (C : Pairs → Type 0) (l₀ l l′ : List ℕ) → Going C l₀ l → Going C l l′ → Going C l₀ l′
 going-then C l₀ l l′ g h =
@@ -11,14 +14,6 @@ going-then C l₀ l l′ g h =
       within = λ R c i. h .within R c (g .within R c i);
       kept = λ x t lt e. h .kept x t lt (g .kept x t lt e);
       sized = h .sized ∙ g .sized;
-    }
-
-pub settled-after : (C : Pairs → Type 0) (l₀ l l′ : List ℕ) → Going C l₀ l → Settled C l l′ → Settled C l₀ l′
-settled-after C l₀ l l′ g h =
-    record {
-      within = λ R c i. h .within R c (g .within R c i);
-      kept = λ x t lt e. h .kept x t lt (g .kept x t lt e);
-      closed = h .closed;
     }
 
 -- closed under more

@@ -1,2 +1,3 @@
 pub mod GoingLaws
+pub mod ProgressLaws
 pub mod ListLaws

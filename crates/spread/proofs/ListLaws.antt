@@ -12,9 +12,9 @@ use lib.Seq.{getD-set-same, getD-set-other}
 use borrow.Author.Tests.{eqb-true, eqb-false}
 use Rattle.meaning.proofs.BasicsLaws.{decide}
 use Rattle.rows.specs.Rows.{has}
-use Rattle.rounds.specs.Arrays.{fromAt, toAt, spanAt, Motions}
-use Rattle.rounds.specs.Rounds.{WaitClosed, MoveClosed, Closed, Inside, Step, Moved}
-use Rattle.rounds.proofs.StepLaws.{or-zero}
+use Rattle.moves.specs.Arrays.{fromAt, toAt, spanAt, Motions}
+use Rattle.moves.specs.Sets.{WaitClosed, MoveClosed, Closed, Inside, Step, Moved}
+use Rattle.moves.proofs.StepLaws.{or-zero}
 use Rattle.spread.specs.Spread.{Chain, here, next, Listed, MovesClosed, Tried, Noted}
 
 -- ---- the lists, filled from the last motion down

@@ -1,12 +1,14 @@
 -- Lists of the motions by state, and what is closed where no growth of a row is noted.
 -- Assumes nothing.
-use Prim.Native.Nat.{ℕ, _+_, _<_}
+use Prim.Native.Nat.{ℕ, _+_, _-_, _%_, _<_}
 use mathlib.Core.Path.{_≡_}
+use mathlib.Core.Bool.{cond}
 use mathlib.Core.List.{List}
+use lib.Dec.{eqb}
 use lib.ListN.{getD}
-use Rattle.rows.specs.Rows.{has}
-use Rattle.rounds.specs.Arrays.{fromAt}
-use Rattle.rounds.specs.Rounds.{Pairs, WaitClosed, MoveClosed}
+use Rattle.rows.specs.Rows.{has, total}
+use Rattle.moves.specs.Arrays.{fromAt}
+use Rattle.moves.specs.Sets.{Pairs, WaitClosed, MoveClosed}
 
 -- the list that starts at a has the motion m: behind each motion of it stands the next, which is a later one
 pub data Chain : List ℕ → ℕ → ℕ → ℕ → Type 0 where
@@ -28,3 +30,25 @@ Tried n k st mv fr al g R = (s : ℕ) → s < 256 → getD g s 0 ≡ 0 → (s < 
 -- where no growth is noted in g, none was noted in g₀, and the row is as it was
 abbrev pub Noted : List ℕ → List ℕ → List ℕ → List ℕ → Type 0
 Noted l₀ g₀ l g = (s : ℕ) → s < 256 → getD g s 0 ≡ 0 → (getD g₀ s 0 ≡ 0) × ((t : ℕ) → t < 1024 → has l s t ≡ has l₀ s t)
+
+-- some steps from l₀ to l: the sum of the words has grown, or nothing has changed and Q holds
+pub data Progress (l₀ l : List ℕ) (Q : Type 0) : Type 0 where
+  more : total l₀ < total l → Progress l₀ l Q
+  quiet : l ≡ l₀ → Q → Progress l₀ l Q
+
+-- no other growth is noted in g than in g₀
+abbrev pub Unnoted : List ℕ → List ℕ → Type 0
+Unnoted g₀ g = (x : ℕ) → getD g x 0 ≡ getD g₀ x 0
+
+-- and none of s
+pub record UnnotedBut (g₀ g : List ℕ) (s : ℕ) : Type 0 where
+  pub here : getD g s 0 ≡ 0
+  pub others : (x : ℕ) → (x ≡ s → ⊥) → getD g x 0 ≡ getD g₀ x 0
+
+-- no growth is noted
+abbrev pub NoneGrown : List ℕ → Type 0
+NoneGrown g = (s : ℕ) → s < 256 → getD g s 0 ≡ 0
+
+-- state s of 256, counted from the other end where the turn is odd
+abbrev pub inTurn : ℕ → ℕ → ℕ
+inTurn s turn = cond (eqb (turn % 2) 0) s (255 - s)

@@ -1,12 +1,12 @@
 // Waits and motions state by state, until no pair of state and tick is new: only states whose sets have grown, and only their own motions.
 ghost use mathlib.Core.Path.{_≡_};
-ghost use mathlib.Core.Bool.{true};
+ghost use mathlib.Core.Bool.{true, false};
 ghost use Prim.Native.Nat.{ℕ, _*_, _≤_, _<_};
 ghost use lib.ListN.{length, getD};
-ghost use Rattle.rows.specs.Rows.{has};
-ghost use Rattle.rounds.specs.Arrays.{States, Motions};
-ghost use Rattle.rounds.specs.Rounds.{WaitClosed, MoveClosed, Below, Closed, Going, Settled};
-ghost use Rattle.spread.specs.Spread.{Listed, MovesClosed, Tried, Noted};
+ghost use Rattle.rows.specs.Rows.{has, total};
+ghost use Rattle.moves.specs.Arrays.{States, Motions};
+ghost use Rattle.moves.specs.Sets.{WaitClosed, MoveClosed, Below, Closed, Going, Settled};
+ghost use Rattle.spread.specs.Spread.{Listed, MovesClosed, Tried, Noted, Progress, Unnoted, UnnotedBut, NoneGrown, inTurn};
 
 // Lists of the motions from each state, in rising order: at m stands the motion after m, at 2,000 + s the first one of s, and 2,000 ends a list.
 fn lists_of(moves: &[u16], k: usize) -> [u16; 2256]
@@ -17,7 +17,7 @@ fn lists_of(moves: &[u16], k: usize) -> [u16; 2256]
     let mut m = k;
     while 0 < m {
         m -= 1;
-        let first = 2000 + rounds::wide(moves[m * 5]);
+        let first = 2000 + moves::wide(moves[m * 5]);
         lists[m] = lists[first];
         lists[first] = m as u16;
     }
@@ -40,13 +40,14 @@ fn move_from(
     ensures { λ _. ⌜ (length (now (grown .exit)) ≡ 256) × Noted (now (reached .entry)) (now (grown .entry)) (now (reached .exit)) (now (grown .exit)) ⌝ }
     ensures { λ _. ⌜ (Listed k (now (moves .entry)) (now (lists .entry)) → getD (now (grown .exit)) s 0 ≡ 0
         → MovesClosed k (now (moves .entry)) (now (allowed .entry)) s (has (now (reached .exit)))) ⌝ }
+    ensures { λ _. ⌜ Progress (now (reached .entry)) (now (reached .exit)) (Unnoted (now (grown .entry)) (now (grown .exit))) ⌝ }
 {
-    let mut m = rounds::wide(lists[2000 + s]);
+    let mut m = moves::wide(lists[2000 + s]);
     while m < k {
-        let new = rounds::move_one(moves, allowed, reached, k, m);
-        let to = rounds::wide(moves[m * 5 + 1]);
+        let new = moves::move_one(moves, allowed, reached, k, m);
+        let to = moves::wide(moves[m * 5 + 1]);
         grown[to] = grown[to] | new;
-        let after = rounds::wide(lists[m]);
+        let after = moves::wide(lists[m]);
         if after <= m {
             return;
         }
@@ -60,11 +61,12 @@ fn wait_in(states: &[u16], frees: &[u64], reached: &mut [u64], n: usize, s: usiz
     ensures { λ _. ⌜ Going (Below (WaitClosed (now (states .entry)) (now (frees .entry))) n) (now (reached .entry)) (now (reached .exit)) ⌝ }
     ensures { λ _. ⌜ (s < n → WaitClosed (now (states .entry)) (now (frees .entry)) s (has (now (reached .exit)))) ⌝ }
     ensures { λ _. ⌜ ((x t : ℕ) → (x ≡ s → ⊥) → t < 1024 → has (now (reached .exit)) x t ≡ has (now (reached .entry)) x t) ⌝ }
+    ensures { λ _. ⌜ Progress (now (reached .entry)) (now (reached .exit)) (Unit {0}) ⌝ }
 {
     if n <= s {
         return;
     }
-    rounds::wait_one(states, frees, reached, n, s);
+    moves::wait_one(states, frees, reached, n, s);
 }
 
 // Tries the waits and the motions of state s, if its set has grown since the last time.
@@ -88,6 +90,7 @@ fn spread_one(
     ensures { λ _. ⌜ (Listed k (now (moves .entry)) (now (lists .entry))
         → Tried n k (now (states .entry)) (now (moves .entry)) (now (frees .entry)) (now (allowed .entry)) (now (grown .entry)) (has (now (reached .entry)))
         → Tried n k (now (states .entry)) (now (moves .entry)) (now (frees .entry)) (now (allowed .entry)) (now (grown .exit)) (has (now (reached .exit)))) ⌝ }
+    ensures { λ _. ⌜ Progress (now (reached .entry)) (now (reached .exit)) (UnnotedBut (now (grown .entry)) (now (grown .exit)) s) ⌝ }
 {
     if grown[s] == 0 {
         return;
@@ -103,7 +106,7 @@ fn spread_one(
 // State s of 256, counted from the other end where the turn is odd.
 fn in_turn(s: usize, turn: usize) -> usize
     requires { ⌜ s < 256 ⌝ }
-    ensures { λ r. ⌜ r < 256 ⌝ }
+    ensures { λ r. ⌜ (r ≡ inTurn s turn) × (r < 256) ⌝ }
 {
     if turn % 2 == 0 {
         return s;
@@ -132,6 +135,7 @@ fn spread_all(
     ensures { λ _. ⌜ (Listed k (now (moves .entry)) (now (lists .entry))
         → Tried n k (now (states .entry)) (now (moves .entry)) (now (frees .entry)) (now (allowed .entry)) (now (grown .entry)) (has (now (reached .entry)))
         → Tried n k (now (states .entry)) (now (moves .entry)) (now (frees .entry)) (now (allowed .entry)) (now (grown .exit)) (has (now (reached .exit)))) ⌝ }
+    ensures { λ _. ⌜ Progress (now (reached .entry)) (now (reached .exit)) (NoneGrown (now (grown .exit))) ⌝ }
 {
     let mut s = 0;
     while s < 256 {
@@ -154,7 +158,8 @@ fn spread_all(
 
 // No set has grown.
 fn none_grown(grown: &[u64; 256]) -> bool
-    ensures { λ r. ⌜ (r ≡ true → ((s : ℕ) → s < 256 → getD (now (grown .entry)) s 0 ≡ 0)) ⌝ }
+    ensures { λ r. ⌜ (r ≡ true → NoneGrown (now (grown .entry))) ⌝ }
+    ensures { λ r. ⌜ (r ≡ false → 0 < total (now (grown .entry))) ⌝ }
 {
     let mut s = 0;
     while s < 256 {
@@ -166,47 +171,7 @@ fn none_grown(grown: &[u64; 256]) -> bool
     true
 }
 
-// Tries the states whose sets have grown until there are none, 1,000 times at most. Answers whether nothing is left to try.
-fn spread_out(
-    states: &[u16],
-    moves: &[u16],
-    frees: &[u64],
-    allowed: &[u64],
-    reached: &mut [u64],
-    n: usize,
-    k: usize,
-) -> bool
-    requires { ⌜ States n (now states) × Motions k (now moves) ⌝ }
-    requires { ⌜ (4096 ≤ length (now frees)) × ((k * 16 ≤ length (now allowed)) × (4096 ≤ length (now reached))) ⌝ }
-    ensures { λ _. ⌜ Going (Closed n k (now (states .entry)) (now (moves .entry)) (now (frees .entry)) (now (allowed .entry)))
-        (now (reached .entry)) (now (reached .exit)) ⌝ }
-    ensures { λ r. ⌜ (r ≡ true → Closed n k (now (states .entry)) (now (moves .entry)) (now (frees .entry)) (now (allowed .entry)) (has (now (reached .exit)))) ⌝ }
-{
-    let lists = lists_of(moves, k);
-    let mut grown = [1u64; 256];
-    let mut left: usize = 1000;
-    while 0 < left {
-        if none_grown(&grown) {
-            return true;
-        }
-        spread_all(
-            states,
-            moves,
-            frees,
-            allowed,
-            reached,
-            &lists,
-            &mut grown,
-            n,
-            k,
-            left,
-        );
-        left -= 1;
-    }
-    false
-}
-
-// All waits and all motions until nothing new is set: state by state, and, should that come to no end, in rounds.
+// All waits and all motions until nothing new is set: the states whose sets have grown, up and down in turn.
 pub fn settle(
     states: &[u16],
     moves: &[u16],
@@ -221,8 +186,25 @@ pub fn settle(
     ensures { λ _. ⌜ Settled (Closed n k (now (states .entry)) (now (moves .entry)) (now (frees .entry)) (now (allowed .entry)))
         (now (reached .entry)) (now (reached .exit)) ⌝ }
 {
-    if spread_out(states, moves, frees, allowed, reached, n, k) {
-        return;
+    let lists = lists_of(moves, k);
+    let mut grown = [1u64; 256];
+    let mut turn: usize = 0;
+    loop {
+        if none_grown(&grown) {
+            return;
+        }
+        spread_all(
+            states,
+            moves,
+            frees,
+            allowed,
+            reached,
+            &lists,
+            &mut grown,
+            n,
+            k,
+            turn,
+        );
+        turn = (turn + 1) % 2;
     }
-    rounds::to_fixed_point(states, moves, frees, allowed, reached, n, k);
 }

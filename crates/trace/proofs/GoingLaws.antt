@@ -12,7 +12,7 @@ use Rattle.meaning.specs.WellFormed.{WellFormed}
 use Rattle.meaning.specs.Reach.{reachWord, waitOne}
 use Rattle.meaning.proofs.ReachLaws.{Arrives, found-arrives}
 use Rattle.meaning.proofs.TraceLaws.{found-steps}
-use Rattle.rounds.specs.Arrays.{fromAt, spanAt}
+use Rattle.moves.specs.Arrays.{fromAt, spanAt}
 use Rattle.reach.specs.Decoded.{Decoded}
 use Rattle.back.specs.Words.{Sets}
 use Rattle.trace.specs.Turns.{waitInFront, Search, Found}

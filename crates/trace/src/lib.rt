@@ -5,7 +5,7 @@ ghost use Prim.Native.Nat.{_*_, _≤_, _<_};
 ghost use lib.ListN.{length};
 ghost use Rattle.meaning.specs.Plan.{move};
 ghost use Rattle.meaning.specs.Reach.{waitOne};
-ghost use Rattle.rounds.specs.Arrays.{States, Motions};
+ghost use Rattle.moves.specs.Arrays.{States, Motions};
 ghost use Rattle.write.specs.Codes.{stepOfCode, stepsIn};
 ghost use Rattle.trace.specs.Turns.{waitInFront, Search, Found};
 
@@ -73,8 +73,8 @@ pub fn trace_back(
         } else {
             let m = w - 3;
             count = push_move(path, count, m);
-            s = rounds::wide(moves[m * 5]);
-            let span = rounds::wide(moves[m * 5 + 2]);
+            s = moves::wide(moves[m * 5]);
+            let span = moves::wide(moves[m * 5 + 2]);
             t -= span;
         }
     }

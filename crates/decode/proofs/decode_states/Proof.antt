@@ -5,7 +5,7 @@ use mathlib.Core.Path.{_≡_, refl, sym, ap, _∙_, subst}
 use mathlib.Core.List.{List}
 use lib.ListN.{length}
 use Rattle.site.proofs.Accepted.{read-laid}
-use Rattle.rounds.specs.Arrays.{cellAt, speedAt}
+use Rattle.moves.specs.Arrays.{cellAt, speedAt}
 use Rattle.decode.specs.Decodes.{StateHeld}
 use Rattle.decode.proofs.Laws.{states-more, two-length}
 use Rattle.decode.proofs.Uses.{well}

@@ -6,7 +6,7 @@ use native.Mathlib.Omega.{arith}
 use borrow.Author.Needs.{needs}
 use lib.ListN.{length}
 use Rattle.site.specs.declared.Layout.{Layout}
-use Rattle.rounds.specs.Arrays.{States, Motions}
+use Rattle.moves.specs.Arrays.{States, Motions}
 use Rattle.reach.proofs.AllowLaws.{ones-full, ones-long}
 use Rattle.find.proofs.Laws.{Ranges, SetsOn, ranges, same-states, board-fits, states-in, motions-in, sweeps-in, sets-in, missing, found, planned}
 use Rattle.find.proofs.search.Statement.{statement}

@@ -1,12 +1,12 @@
--- `reach::explore` meets its contract: the start alone, and then rounds to the end; or nothing.
+-- `reach::explore` meets its contract: the start alone, and then all that waits and motions reach from it; or nothing.
 -- Assumes nothing.
 use Prim.Native.Nat.{ℕ}
 use native.Mathlib.Omega.{arith}
 use mathlib.Core.Path.{sym, ap, _∙_}
 use borrow.Author.Needs.{needs}
 use Rattle.rows.specs.Rows.{has}
-use Rattle.rounds.specs.Rounds.{Closed}
-use Rattle.rounds.proofs.StepLaws.{explored-found, explored-nothing}
+use Rattle.moves.specs.Sets.{Closed}
+use Rattle.moves.proofs.StepLaws.{explored-found, explored-nothing}
 use Rattle.reach.proofs.explore.Statement.{statement}
 use Rattle.reach.proofs.explore.Tie as tie
 

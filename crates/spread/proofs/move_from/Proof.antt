@@ -1,15 +1,14 @@
 -- `spread::move_from` meets its contract: the motions of the list before m are closed, unless growth of s itself is noted.
 -- Assumes nothing.
 use Prim.Native.Nat.{_-_}
-use borrow.Author.Needs.{needs}
 use native.Mathlib.Omega.{arith}
-use mathlib.Core.Path.{_≡_}
+use mathlib.Core.Path.{_≡_, refl, _∙_}
 use lib.ListN.{length, length-set}
-use Rattle.rounds.specs.Rounds.{MoveClosed, Below, Going}
-use Rattle.spread.specs.Spread.{Noted}
+use Rattle.moves.specs.Sets.{MoveClosed, Below, Going}
+use Rattle.spread.specs.Spread.{Noted, Progress, Unnoted}
 use Rattle.spread.proofs.ListLaws.{Walked, noted-start, noted-more, walked-start, walked-more, walked-last, walked-end, listed-from}
-use Rattle.rounds.proofs.StepLaws.{going-start}
-use Rattle.spread.proofs.GoingLaws.{going-one}
+use Rattle.spread.proofs.GoingLaws.{going-start, going-one}
+use Rattle.spread.proofs.ProgressLaws.{progress-none, progress-then, progress-move}
 use Rattle.spread.proofs.move_from.Statement.{statement}
 use Rattle.spread.proofs.move_from.Tie as tie
 
@@ -18,45 +17,49 @@ Inv-loop moves allowed reached₀ lists grown₀ k s m₀ reached grown m =
     Going (Below (MoveClosed moves allowed) k) reached₀ reached
     × ((length grown ≡ 256) × Noted reached₀ grown₀ reached grown)
     × Walked k moves allowed lists s reached grown m
+    × Progress reached₀ reached (Unnoted grown₀ grown)
 
 abbrev μ-loop : tie.MeasureT-loop
 μ-loop moves allowed reached₀ lists grown₀ k s m₀ reached grown m = k - m
 
 add-wide : tie.Need-add-wide Inv-loop μ-loop
-add-wide c = search needs
+add-wide c = omega arith
 
 mul-wide : tie.Need-mul-wide Inv-loop μ-loop
-mul-wide c = search needs
+mul-wide c = omega arith
 
 element-copy-out-wide : tie.Need-element-copy-out-wide Inv-loop μ-loop
-element-copy-out-wide c = search needs
+element-copy-out-wide c = omega arith
 
 wide-requires : tie.Need-wide-requires Inv-loop μ-loop
-wide-requires c κs = search needs
+wide-requires c κs = omega arith
 
 loop-holds : tie.Need-loop-holds Inv-loop μ-loop
 loop-holds c =
     let start = c .before .before .before .before .before in
     let a = start .args in
-    (going-start _ _, (start .pre .0 .1 .1, noted-start (a .reached .now) (a .grown .now)), walked-start (a .k) (a .moves .now) (a .allowed .now) (a .lists .now) (a .s) (a .reached .now) (a .grown .now) (c .wide .result) (c .wide .ensures))
+    (going-start _ _, (start .pre .0 .1 .1, noted-start (a .reached .now) (a .grown .now)), walked-start (a .k) (a .moves .now) (a .allowed .now) (a .lists .now) (a .s) (a .reached .now) (a .grown .now) (c .wide .result) (c .wide .ensures), progress-none _ (λ x. refl))
 
 move-one-requires : tie.Need-move-one-requires Inv-loop μ-loop
-move-one-requires c κs = search needs
+move-one-requires c κs =
+    let turn = c .before .before in
+    let start = turn .before .before .before .before .before .before in
+    ((start .pre .0 .0, c .before .loop-test .taken), (omega arith, omega (arith, turn .loop .inv .0 .sized)))
 
 mul-wide-2 : tie.Need-mul-wide-2 Inv-loop μ-loop
-mul-wide-2 c = search needs
+mul-wide-2 c = omega arith
 
 add-wide-2 : tie.Need-add-wide-2 Inv-loop μ-loop
-add-wide-2 c = search needs
+add-wide-2 c = omega arith
 
 mul-wide-3 : tie.Need-mul-wide-3 Inv-loop μ-loop
-mul-wide-3 c = search needs
+mul-wide-3 c = omega arith
 
 shared-slice-read-wide : tie.Need-shared-slice-read-wide Inv-loop μ-loop
-shared-slice-read-wide c = search needs
+shared-slice-read-wide c = omega arith
 
 wide-requires-2 : tie.Need-wide-requires-2 Inv-loop μ-loop
-wide-requires-2 c κs = search needs
+wide-requires-2 c κs = omega arith
 
 mul-grown : tie.Need-mul-grown Inv-loop μ-loop
 mul-grown c = let turn = c .before .before .before .before .before .before .before in omega (arith, c .wide2 .ensures, turn .before .before .before .before .before .before .pre .0 .0 .to (turn .loop .m) (omega arith))
@@ -71,16 +74,16 @@ element-write-grown : tie.Need-element-write-grown Inv-loop μ-loop
 element-write-grown c = let turn = c .before .before .before .before .before .before .before .before in omega (arith, c .before .wide2 .ensures, turn .before .before .before .before .before .before .pre .0 .0 .to (turn .loop .m) (omega arith))
 
 mul-wide-4 : tie.Need-mul-wide-4 Inv-loop μ-loop
-mul-wide-4 c = search needs
+mul-wide-4 c = omega arith
 
 element-copy-out-wide-2 : tie.Need-element-copy-out-wide-2 Inv-loop μ-loop
-element-copy-out-wide-2 c = search needs
+element-copy-out-wide-2 c = omega arith
 
 wide-requires-3 : tie.Need-wide-requires-3 Inv-loop μ-loop
-wide-requires-3 c κs = search needs
+wide-requires-3 c κs = omega arith
 
 same-length : tie.Need-same-length Inv-loop μ-loop
-same-length c = search needs
+same-length c = omega arith
 
 returns : tie.Need-returns Inv-loop μ-loop
 returns c =
@@ -95,12 +98,15 @@ returns c =
       going-one (MoveClosed (a .moves .now) (a .allowed .now)) (a .k) m _ _ _ _ taken (i .0) (moved .ensures .0),
       (
         (simp length-set (i .1 .0), noted-more (a .k) (a .moves .now) (a .allowed .now) (a .lists .now) (a .s) (turn .loop .reached) _ (turn .loop .grown) m (moved .result) (to .result) (i .1 .0) (to .ensures) (omega (arith, to .ensures, start .pre .0 .0 .to m taken)) (moved .ensures .0) (moved .ensures .1) (a .reached .now) (a .grown .now) (i .1 .1)),
-        λ all e x h from. walked-last (a .k) (a .moves .now) (a .allowed .now) (a .lists .now) (a .s) (turn .loop .reached) _ (turn .loop .grown) m (moved .result) (to .result) (i .1 .0) (to .ensures) (omega (arith, to .ensures, start .pre .0 .0 .to m taken)) (moved .ensures .0) (moved .ensures .1) (omega arith) (omega (arith, c .before .wide3 .ensures)) (i .2) x (listed-from (a .k) (a .moves .now) (a .lists .now) (a .s) all x h from) from e,
+        (
+          λ all e x h from. walked-last (a .k) (a .moves .now) (a .allowed .now) (a .lists .now) (a .s) (turn .loop .reached) _ (turn .loop .grown) m (moved .result) (to .result) (i .1 .0) (to .ensures) (omega (arith, to .ensures, start .pre .0 .0 .to m taken)) (moved .ensures .0) (moved .ensures .1) (omega arith) (omega (arith, c .before .wide3 .ensures)) (i .2) x (listed-from (a .k) (a .moves .now) (a .lists .now) (a .s) all x h from) from e,
+          progress-then (λ p q x. q x ∙ p x) (i .3) (progress-move _ _ (turn .loop .grown) (moved .result) (to .result) (omega (arith, i .1 .0, to .ensures, start .pre .0 .0 .to m taken)) (moved .ensures .0 .grown)),
+        ),
       ),
     )
 
 loop-less : tie.Need-loop-less Inv-loop μ-loop
-loop-less c = search needs
+loop-less c = omega arith
 
 loop-again : tie.Need-loop-again Inv-loop μ-loop
 loop-again c =
@@ -115,17 +121,18 @@ loop-again c =
       going-one (MoveClosed (a .moves .now) (a .allowed .now)) (a .k) m _ _ _ _ taken (i .0) (moved .ensures .0),
       (simp length-set (i .1 .0), noted-more (a .k) (a .moves .now) (a .allowed .now) (a .lists .now) (a .s) (turn .loop .reached) _ (turn .loop .grown) m (moved .result) (to .result) (i .1 .0) (to .ensures) (omega (arith, to .ensures, start .pre .0 .0 .to m taken)) (moved .ensures .0) (moved .ensures .1) (a .reached .now) (a .grown .now) (i .1 .1)),
       walked-more (a .k) (a .moves .now) (a .allowed .now) (a .lists .now) (a .s) (turn .loop .reached) _ (turn .loop .grown) m (moved .result) (to .result) (i .1 .0) (to .ensures) (omega (arith, to .ensures, start .pre .0 .0 .to m taken)) (moved .ensures .0) (moved .ensures .1) (c .before .wide3 .result) (omega arith) (c .before .wide3 .ensures) (i .2),
+      progress-then (λ p q x. q x ∙ p x) (i .3) (progress-move _ _ (turn .loop .grown) (moved .result) (to .result) (omega (arith, i .1 .0, to .ensures, start .pre .0 .0 .to m taken)) (moved .ensures .0 .grown)),
     )
 
 same-length-2 : tie.Need-same-length-2 Inv-loop μ-loop
-same-length-2 c = search needs
+same-length-2 c = omega arith
 
 returns-2 : tie.Need-returns-2 Inv-loop μ-loop
 returns-2 c =
     let turn = c .before in
     let a = turn .before .before .before .before .before .before .args in
     let i = turn .loop .inv in
-    (i .0, (i .1, λ all e x h from. walked-end (a .k) (a .moves .now) (a .allowed .now) (a .lists .now) (a .s) (turn .loop .reached) (turn .loop .grown) (turn .loop .m) (omega arith) (i .2) x (listed-from (a .k) (a .moves .now) (a .lists .now) (a .s) all x h from) from e))
+    (i .0, (i .1, (λ all e x h from. walked-end (a .k) (a .moves .now) (a .allowed .now) (a .lists .now) (a .s) (turn .loop .reached) (turn .loop .grown) (turn .loop .m) (omega arith) (i .2) x (listed-from (a .k) (a .moves .now) (a .lists .now) (a .s) all x h from) from e, i .3)))
 
 pub move-from-spec : {M : Type 1} → statement M
 move-from-spec =

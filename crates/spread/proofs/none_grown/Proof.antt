@@ -2,9 +2,10 @@
 -- Assumes nothing.
 use Prim.Native.Nat.{ℕ, _-_, _≤_, _<_}
 use mathlib.Core.Path.{_≡_}
-use mathlib.Core.Bool.{false≢true}
+use mathlib.Core.Bool.{false≢true, true≢false}
 use lib.ListN.{getD}
 use Rattle.spread.proofs.ListLaws.{none-more}
+use Rattle.spread.proofs.ProgressLaws.{noted-some}
 use borrow.Author.Needs.{needs}
 use native.Mathlib.Omega.{arith}
 use Rattle.spread.proofs.none_grown.Statement.{statement}
@@ -26,7 +27,7 @@ element-copy-out-if1 : tie.Need-element-copy-out-if1 Inv-loop μ-loop
 element-copy-out-if1 c = search needs
 
 returns : tie.Need-returns Inv-loop μ-loop
-returns c = λ e. absurd (false≢true e)
+returns c = (λ e. absurd (false≢true e), λ e. noted-some (c .before .before .before .before .args .grown .now) (c .before .before .before .loop .s) (c .if1 .taken))
 
 add-s : tie.Need-add-s Inv-loop μ-loop
 add-s c = search needs
@@ -38,7 +39,7 @@ loop-again : tie.Need-loop-again Inv-loop μ-loop
 loop-again c = (omega arith, none-more (c .before .before .before .before .args .grown .now) (c .before .before .before .loop .s) (c .before .before .before .loop .inv .1) (c .if1 .left))
 
 returns-2 : tie.Need-returns-2 Inv-loop μ-loop
-returns-2 c = λ e x h. c .before .loop .inv .1 x (omega arith)
+returns-2 c = (λ e x h. c .before .loop .inv .1 x (omega arith), λ e. absurd (true≢false e))
 
 pub none-grown-spec : {M : Type 1} → statement M
 none-grown-spec =

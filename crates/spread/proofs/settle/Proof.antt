@@ -1,31 +1,90 @@
--- `spread::settle` meets its contract: nothing is left to try, or the rounds go on from there to their end.
+-- `spread::settle` meets its contract: where no growth is noted, waits and motions are closed; a turn sets a bit, or is the last one.
 -- Assumes nothing.
+use Prim.Native.Nat.{ℕ, _<_}
+use mathlib.Core.Path.{_≡_}
+use lib.ListN.{length, length-replicate}
+use Rattle.rows.specs.Rows.{has}
+use Rattle.moves.specs.Sets.{Closed, Going}
+use Rattle.spread.specs.Spread.{Tried}
+use Rattle.spread.proofs.GoingLaws.{going-start, going-then}
+use Rattle.spread.proofs.ListLaws.{tried-start, tried-closed}
+use Rattle.spread.proofs.ProgressLaws.{left, turn-less}
+use borrow.Author.Needs.{needs}
 use native.Mathlib.Omega.{arith}
-use Rattle.spread.proofs.GoingLaws.{settled-after}
 use Rattle.spread.proofs.settle.Statement.{statement}
 use Rattle.spread.proofs.settle.Tie as tie
 
-spread-out-requires : tie.Need-spread-out-requires
-spread-out-requires c κs = let start = c .before .before .before .before .before .before in (start .pre .0, start .pre .1)
+abbrev Inv-loop : tie.InvT-loop
+Inv-loop states moves frees allowed reached₀ n k lists grown₀ turn₀ reached grown turn =
+    Going (Closed n k states moves frees allowed) reached₀ reached
+    × (length grown ≡ 256)
+    × Tried n k states moves frees allowed grown (has reached)
+    × (turn < 2)
 
-same-length : tie.Need-same-length
-same-length c = c .before .before .before .spread-out .ensures .0 .sized
+abbrev μ-loop : tie.MeasureT-loop
+μ-loop states moves frees allowed reached₀ n k lists grown₀ turn₀ reached grown turn = left reached grown
 
-returns : tie.Need-returns
+lists-of-requires : tie.Need-lists-of-requires Inv-loop μ-loop
+lists-of-requires c κs = search needs
+
+loop-holds : tie.Need-loop-holds Inv-loop μ-loop
+loop-holds c =
+    let a = c .before .before .before .before .before .before .args in
+    (going-start _ _, length-replicate {A = ℕ} 256 1, tried-start (a .n) (a .k) (a .states .now) (a .moves .now) (a .frees .now) (a .allowed .now) (a .reached .now), omega arith)
+
+none-grown-requires : tie.Need-none-grown-requires Inv-loop μ-loop
+none-grown-requires c κs = search needs
+
+same-length : tie.Need-same-length Inv-loop μ-loop
+same-length c = search needs
+
+returns : tie.Need-returns Inv-loop μ-loop
 returns c =
-    let done = c .before .before .before .spread-out .ensures in
-    record { within = done .0 .within; kept = done .0 .kept; closed = done .1 (c .if1 .taken) }
+    let turn = c .before .before .before in
+    let start = turn .before .before .before .before .before .before .before in
+    let a = start .args in
+    let i = turn .loop .inv in
+    record {
+      within = i .0 .within;
+      kept = i .0 .kept;
+      closed = tried-closed (a .n) (a .k) (a .states .now) (a .moves .now) (a .frees .now) (a .allowed .now) (turn .loop .grown) (turn .loop .reached) (start .pre .0 .0 .few) (start .pre .0 .1) (c .before .none-grown .ensures .0 (c .if1 .taken)) (i .2);
+    }
 
-to-fixed-point-requires : tie.Need-to-fixed-point-requires
-to-fixed-point-requires c κs =
-    let start = c .before .before .before .before .before .before .before .before .before .before .before in
-    (start .pre .0, (omega arith, (omega arith, omega (arith, c .before .before .before .before .spread-out .ensures .0 .sized))))
+spread-all-requires : tie.Need-spread-all-requires Inv-loop μ-loop
+spread-all-requires c κs =
+    let turn = c .before .before .before .before .before .before in
+    let start = turn .before .before .before .before .before .before .before in
+    let i = turn .loop .inv in
+    ((start .pre .0 .0, (start .pre .0 .1, i .1)), (omega arith, (omega arith, omega (arith, i .0 .sized))))
 
-same-length-2 : tie.Need-same-length-2
-same-length-2 c = omega arith
+add-turn : tie.Need-add-turn Inv-loop μ-loop
+add-turn c = search needs
 
-returns-2 : tie.Need-returns-2
-returns-2 c = settled-after _ _ _ _ (c .before .before .before .before .before .before .before .spread-out .ensures .0) (c .before .before .to-fixed-point .ensures)
+loop-less : tie.Need-loop-less Inv-loop μ-loop
+loop-less c =
+    let turn = c .before .before .before .before .before .before .before .before .before in
+    let e = c .before .before .spread-all .ensures in
+    turn-less _ _ _ _ (e .0 .sized) (λ i. omega (arith, c .slice-known2 .given i)) (c .before .before .before .before .before .before .before .none-grown .ensures .1 (c .before .before .before .before .before .before .if1 .left)) (e .1 .0) (e .1 .1 .1)
+
+loop-again : tie.Need-loop-again Inv-loop μ-loop
+loop-again c =
+    let turn = c .before .before .before .before .before .before .before .before .before in
+    let i = turn .loop .inv in
+    let e = c .before .before .spread-all .ensures in
+    (going-then _ _ _ _ (i .0) (e .0), e .1 .0, e .1 .1 .0 (turn .before .lists-of .ensures) (i .2), omega arith)
 
 pub settle-spec : {M : Type 1} → statement M
-settle-spec = tie.close (tie.spec spread-out-requires same-length returns to-fixed-point-requires same-length-2 returns-2)
+settle-spec =
+    tie.close
+    (tie.spec
+    Inv-loop
+    μ-loop
+    lists-of-requires
+    loop-holds
+    none-grown-requires
+    same-length
+    returns
+    spread-all-requires
+    add-turn
+    loop-less
+    loop-again)

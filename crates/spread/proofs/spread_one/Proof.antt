@@ -1,8 +1,9 @@
 -- `spread::spread_one` meets its contract: by cases of its tests, and then waits before motions.
 -- Assumes nothing.
+use mathlib.Core.Path.{refl}
 use lib.ListN.{length-set}
-use Rattle.rounds.proofs.StepLaws.{going-start}
-use Rattle.spread.proofs.GoingLaws.{going-both}
+use Rattle.spread.proofs.GoingLaws.{going-start, going-both}
+use Rattle.spread.proofs.ProgressLaws.{progress-none, progress-then, cleared, cleared-then}
 use Rattle.spread.proofs.ListLaws.{tried-empty, tried-state}
 use native.Mathlib.Omega.{arith}
 use borrow.Author.Needs.{needs}
@@ -16,7 +17,7 @@ element-copy-out-if1 : tie.Need-element-copy-out-if1
 element-copy-out-if1 c = search needs
 
 returns : tie.Need-returns
-returns c = (going-start _ _, (c .before .before .before .before .before .before .before .pre .0 .1 .1 .1, λ all tried. tried))
+returns c = (going-start _ _, (c .before .before .before .before .before .before .before .pre .0 .1 .1 .1, (λ all tried. tried, progress-none _ (record { here = c .if1 .taken; others = λ x ne. refl }))))
 
 mul-grown : tie.Need-mul-grown
 mul-grown c = search needs
@@ -37,7 +38,10 @@ returns-2 c =
       going-start _ _,
       (
         simp length-set (start .pre .0 .1 .1 .1),
-        λ all. tried-empty (a .n) (a .k) (a .states .now) (a .moves .now) (a .frees .now) (a .allowed .now) (a .grown .now) (a .reached .now) (a .s) (start .pre .0 .1 .1 .1) (c .before .bits .ensures (c .if2 .taken)),
+        (
+          λ all. tried-empty (a .n) (a .k) (a .states .now) (a .moves .now) (a .frees .now) (a .allowed .now) (a .grown .now) (a .reached .now) (a .s) (start .pre .0 .1 .1 .1) (c .before .bits .ensures (c .if2 .taken)),
+          progress-none _ (cleared (a .grown .now) (a .s) (omega (arith, start .pre .0 .1 .1 .0, start .pre .0 .1 .1 .1))),
+        ),
       ),
     )
 
@@ -54,14 +58,18 @@ same-length-2 c = search needs
 
 returns-3 : tie.Need-returns-3
 returns-3 c =
-    let a = c .before .before .before .before .before .before .before .before .before .before .before .before .before .before .before .before .before .before .before .args in
+    let start = c .before .before .before .before .before .before .before .before .before .before .before .before .before .before .before .before .before .before .before in
+    let a = start .args in
     let w = c .before .before .before .before .before .before .before .wait-in .ensures in
     let f = c .before .before .move-from .ensures in (
       going-both (a .n) (a .k) (a .states .now) (a .moves .now) (a .frees .now) (a .allowed .now) _ _ _ (w .0) (f .0),
       (
         f .1 .0 .0,
-        λ all. tried-state (a .n) (a .k) (a .states .now) (a .moves .now) (a .frees .now) (a .allowed .now) (a .grown .now) (a .reached .now) (c .before .before .before .before .before .before .before .wait-in .last .1 .1 .0) (c .before .before .move-from .last .1 .1 .0) (c .before .before .move-from .last .1 .1 .1 .1 .0) (a .s) (w .0 .kept) (f .0 .kept)
-            (w .1 .0) (w .1 .1) (f .1 .0 .1) (f .1 .1 all),
+        (
+          λ all. tried-state (a .n) (a .k) (a .states .now) (a .moves .now) (a .frees .now) (a .allowed .now) (a .grown .now) (a .reached .now) (c .before .before .before .before .before .before .before .wait-in .last .1 .1 .0) (c .before .before .move-from .last .1 .1 .0) (c .before .before .move-from .last .1 .1 .1 .1 .0) (a .s) (w .0 .kept) (f .0 .kept)
+              (w .1 .0) (w .1 .1 .0) (f .1 .0 .1) (f .1 .1 .0 all),
+          progress-then (λ p q. cleared-then (a .grown .now) _ (a .s) (omega (arith, start .pre .0 .1 .1 .0, start .pre .0 .1 .1 .1)) q) (w .1 .1 .1) (f .1 .1 .1),
+        ),
       ),
     )
 

@@ -1,19 +1,19 @@
--- The steps of the search: a wait, a motion, one after the other, and rounds of all until nothing is new.
+-- What a wait and a motion set, and the least closed set with the start.
 -- Assumes nothing.
-use Prim.Native.Nat.{ℕ, zero, suc, _+_, _-_, _*_, _^_, _≤_, _<_}
+use Prim.Native.Nat.{ℕ, zero, suc, _+_, _-_, _≤_, _<_}
 use native.Mathlib.Omega.{arith}
 use mathlib.Core.Path.{_≡_, refl, sym, ap, ap₂, _∙_}
 use mathlib.Core.Bool.{Bool, true, false, _&&_, _||_, false≢true}
 use mathlib.Core.List.{List}
 use lib.Bits.{bitOr, or-add-and, and-le-l, and-le-r}
 use lib.Dec.{ltb, eqb}
-use lib.ListN.{length, replicate}
+use lib.ListN.{replicate}
 use borrow.Author.Tests.{ltb-true, ltb-false, eqb-true, eqb-false, eq-eqb}
 use Rattle.meaning.proofs.BasicsLaws.{decide, and-left, and-right}
-use Rattle.rows.specs.Rows.{at, has, Words, total, Grown, Changed, Met, pushed, waited, filled, seeded}
-use Rattle.rows.proofs.RowLaws.{empty-row, total-bound, grown-start}
-use Rattle.rounds.specs.Arrays.{cellAt, speedAt, fromAt, toAt, spanAt}
-use Rattle.rounds.specs.Rounds.{Pairs, WaitClosed, MoveClosed, Below, Closed, Inside, Step, Going, Settled, Explored, Waited, Moved}
+use Rattle.rows.specs.Rows.{at, has, Grown, Changed, Met, pushed, waited, filled, seeded}
+use Rattle.rows.proofs.RowLaws.{empty-row, grown-start}
+use Rattle.moves.specs.Arrays.{cellAt, speedAt, fromAt, toAt, spanAt}
+use Rattle.moves.specs.Sets.{Pairs, WaitClosed, MoveClosed, Inside, Step, Settled, Explored, Waited, Moved}
 
 -- ---- tests
 
@@ -33,63 +33,6 @@ or-right false b e = e
 
 pub or-zero : (a b : ℕ) → bitOr a b ≡ 0 → (a ≡ 0) × (b ≡ 0)
 or-zero a b e = (omega (arith, or-add-and a b, and-le-l a b, and-le-r a b), omega (arith, or-add-and a b, and-le-l a b, and-le-r a b))
-
-or-pos : (a b : ℕ) → 0 < bitOr a b → a ≡ 0 → 0 < b
-or-pos a b h e = omega (arith, or-add-and a b)
-
-grown-then : (l₀ l l′ : List ℕ) (d d′ : ℕ) → Grown l₀ l d → Grown l l′ d′ → Grown l₀ l′ (bitOr d d′)
-grown-then l₀ l l′ d d′ g g′ =
-    record {
-      same = λ e. let z = or-zero d d′ e in g′ .same (z .1) ∙ g .same (z .0);
-      more = λ h.
-          decide (eqb d 0)
-          (λ u.
-          let z : d ≡ 0 = eqb-true d 0 u in
-          let t = ap total (g .same z) in
-          omega (arith, g′ .more (or-pos d d′ h z)))
-          (λ u.
-          let a : 0 < d = omega (arith, eqb-false d 0 u) in
-          decide (eqb d′ 0)
-          (λ w. let t = ap total (g′ .same (eqb-true d′ 0 w)) in omega (arith, g .more a))
-          (λ w. omega (arith, g .more a, g′ .more (omega (arith, eqb-false d′ 0 w)))));
-      sized = g′ .sized ∙ g .sized;
-    }
-
-pub step-then : (C D : Pairs → Type 0) (l₀ l l′ : List ℕ) (d d′ : ℕ) → Step C l₀ l d → Step D l l′ d′ → Step (λ (R : Pairs). C R × D R) l₀ l′ (bitOr d d′)
-step-then C D l₀ l l′ d d′ g g′ =
-    record {
-      within = λ R c i. g′ .within R (c .1) (g .within R (c .0) i);
-      kept = λ s t h e. g′ .kept s t h (g .kept s t h e);
-      grown = grown-then l₀ l l′ d d′ (g .grown) (g′ .grown);
-      closed = λ e.
-          let z = or-zero d d′ e in
-          let same : l′ ≡ l = g′ .grown .same (z .1) in
-          (rw same (g .closed (z .0)), g′ .closed (z .1));
-    }
-
--- the loops: all numbers below i were tried
-pub tried-none : (C : ℕ → Pairs → Type 0) (l : List ℕ) → Step (Below C 0) l l 0
-tried-none C l =
-    record { within = λ R c i. i; kept = λ s t h e. e; grown = grown-start l; closed = λ e j h. absurd (omega arith) }
-
-pub tried-more : (C : ℕ → Pairs → Type 0) (l₀ l l′ : List ℕ) (d d′ i : ℕ) → Step (Below C i) l₀ l d → Step (C i) l l′ d′ → Step (Below C (i + 1)) l₀ l′ (bitOr d d′)
-tried-more C l₀ l l′ d d′ i g g′ =
-    let both : Step (λ (R : Pairs). Below C i R × C i R) l₀ l′ (bitOr d d′) = step-then (Below C i) (C i) l₀ l l′ d d′ g g′ in
-    record {
-      within = λ R c. both .within R (λ j h. c j (omega arith), c i (omega arith));
-      kept = both .kept;
-      grown = both .grown;
-      closed = λ e. below-next (has l′) (both .closed e);
-    }
-  where
-    below-next : (R : Pairs) → Below C i R × C i R → Below C (i + 1) R
-    below-next R (c, last) j h =
-        decide (eqb j i)
-        (λ u. let same : j ≡ i = eqb-true j i u in rw same last)
-        (λ u. let other : j ≡ i → ⊥ = eqb-false j i u in c j (omega arith))
-
-pub tried-all : (C : ℕ → Pairs → Type 0) (l₀ l : List ℕ) (d i n : ℕ) → i ≤ n → n ≤ i → Step (Below C i) l₀ l d → Step (Below C n) l₀ l d
-tried-all C l₀ l d i n few most g = let same : i ≡ n = omega arith in rw same at g
 
 -- ---- a motion
 
@@ -247,48 +190,6 @@ moving-after st fr l s ne = record { closed = λ still. absurd (ne still); other
 pub moving-step : (st fr l : List ℕ) (s : ℕ) → (speedAt st s ≡ 0 → ⊥) → Step (WaitClosed st fr s) l l 0
 moving-step st fr l s ne =
     record { within = λ R w i. i; kept = λ x t h e. e; grown = grown-start l; closed = λ z still. absurd (ne still) }
-
--- ---- rounds
-
-pub going-start : (C : Pairs → Type 0) (l : List ℕ) → Going C l l
-going-start C l = record { within = λ R c i. i; kept = λ s t h e. e; sized = refl }
-
-going-on : (C : Pairs → Type 0) (l₀ l l′ : List ℕ) (d : ℕ) → Going C l₀ l → Step C l l′ d → Going C l₀ l′
-going-on C l₀ l l′ d g s =
-    record {
-      within = λ R c i. s .within R c (g .within R c i);
-      kept = λ x t h e. s .kept x t h (g .kept x t h e);
-      sized = s .grown .sized ∙ g .sized;
-    }
-
--- the bits still unset, as a number
-unfoldable pub unset : List ℕ → ℕ
-unset l = length l * 2 ^ 64 - total l
-
-pub unset-less : (C : Pairs → Type 0) (l l′ : List ℕ) (d : ℕ) → Step C l l′ d → (d ≡ 0 → ⊥) → Words l′ → unset l′ < unset l
-unfolding unset
-unset-less C l l′ d s ne fit =
-    let m = s .grown .more (omega arith) in
-    let e = ap (λ (x : ℕ). x * 2 ^ 64) (s .grown .sized) in
-    omega (arith, total-bound l′ (2 ^ 64) fit)
-
--- both halves of a round
-pub round-on : (n k : ℕ) (st mv fr al l₀ l l₁ l₂ : List ℕ) (d e : ℕ) → Going (Closed n k st mv fr al) l₀ l
-    → Step (Below (WaitClosed st fr) n) l l₁ d → Step (Below (MoveClosed mv al) k) l₁ l₂ e → Going (Closed n k st mv fr al) l₀ l₂
-round-on n k st mv fr al l₀ l l₁ l₂ d e g w m =
-    going-on (Closed n k st mv fr al) l₀ l l₂ (bitOr d e) g (step-then (Below (WaitClosed st fr) n) (Below (MoveClosed mv al) k) l l₁ l₂ d e w m)
-
-pub round-less : (n k : ℕ) (st mv fr al l l₁ l₂ : List ℕ) (d e : ℕ)
-    → Step (Below (WaitClosed st fr) n) l l₁ d → Step (Below (MoveClosed mv al) k) l₁ l₂ e → (bitOr d e ≡ 0 → ⊥) → Words l₂ → unset l₂ < unset l
-round-less n k st mv fr al l l₁ l₂ d e w m ne fit =
-    unset-less (Closed n k st mv fr al) l l₂ (bitOr d e) (step-then (Below (WaitClosed st fr) n) (Below (MoveClosed mv al) k) l l₁ l₂ d e w m) ne fit
-
-pub round-end : (n k : ℕ) (st mv fr al l₀ l l₁ l₂ : List ℕ) (d e : ℕ) → Going (Closed n k st mv fr al) l₀ l
-    → Step (Below (WaitClosed st fr) n) l l₁ d → Step (Below (MoveClosed mv al) k) l₁ l₂ e → bitOr d e ≡ 0 → Settled (Closed n k st mv fr al) l₀ l₂
-round-end n k st mv fr al l₀ l l₁ l₂ d e g w m z =
-    let both : Step (Closed n k st mv fr al) l l₂ (bitOr d e) = step-then (Below (WaitClosed st fr) n) (Below (MoveClosed mv al) k) l l₁ l₂ d e w m in
-    let on : Going (Closed n k st mv fr al) l₀ l₂ = going-on (Closed n k st mv fr al) l₀ l l₂ (bitOr d e) g both in
-    record { within = on .within; kept = on .kept; closed = both .closed z }
 
 -- ---- from the start
 

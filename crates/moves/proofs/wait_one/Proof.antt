@@ -1,9 +1,9 @@
--- `rounds::wait_one` meets its contract: a state that does not stand has no waits, and else the row is filled.
+-- `moves::wait_one` meets its contract: a state that does not stand has no waits, and else the row is filled.
 -- Assumes nothing.
 use native.Mathlib.Omega.{arith}
-use Rattle.rounds.proofs.StepLaws.{wait-step, wait-after, moving-step, moving-after}
-use Rattle.rounds.proofs.wait_one.Statement.{statement}
-use Rattle.rounds.proofs.wait_one.Tie as tie
+use Rattle.moves.proofs.StepLaws.{wait-step, wait-after, moving-step, moving-after}
+use Rattle.moves.proofs.wait_one.Statement.{statement}
+use Rattle.moves.proofs.wait_one.Tie as tie
 
 mul-if1 : tie.Need-mul-if1
 mul-if1 c = omega (arith, c .before .before .before .pre .0 .0 .few)

@@ -1,9 +1,9 @@
--- `rounds::move_one` meets its contract: the row of `from` where the motion may begin, pushed into the row of `to`.
+-- `moves::move_one` meets its contract: the row of `from` where the motion may begin, pushed into the row of `to`.
 -- Assumes nothing.
 use native.Mathlib.Omega.{arith}
-use Rattle.rounds.proofs.StepLaws.{move-step, move-after}
-use Rattle.rounds.proofs.move_one.Statement.{statement}
-use Rattle.rounds.proofs.move_one.Tie as tie
+use Rattle.moves.proofs.StepLaws.{move-step, move-after}
+use Rattle.moves.proofs.move_one.Statement.{statement}
+use Rattle.moves.proofs.move_one.Tie as tie
 
 mul-wide : tie.Need-mul-wide
 mul-wide c = omega (arith, c .before .before .before .pre .0 .0 .few)
