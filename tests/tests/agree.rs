@@ -1,6 +1,6 @@
 //! The desk against independent programs on seeded calls: number, values and every lent byte.
 //!
-//! CALLS sets the number of calls (1,000,000) and SEED the seed (1): `CALLS=5000000 SEED=7 cargo test --release --test agree`.
+//! CALLS sets the number of calls (400,000) and SEED the seed (1): `CALLS=5000000 SEED=7 cargo test --release --test agree`.
 
 use dispatch_tests::desk::{self, Answer};
 use dispatch_tests::gen::{self, Call, Caller, Rng, Size, CALLS};
@@ -223,7 +223,7 @@ fn setting(name: &str, default: u64) -> u64 {
 
 #[test]
 fn desk_and_plain_program_agree() {
-    let (calls, seed) = (setting("CALLS", 1_000_000) as usize, setting("SEED", 1));
+    let (calls, seed) = (setting("CALLS", 400_000) as usize, setting("SEED", 1));
     // Written to the stream itself, so that it shows for passed tests too.
     let mut log = std::io::stderr();
     writeln!(log, "agree: seed {seed}, {calls} calls").unwrap();

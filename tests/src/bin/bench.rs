@@ -3,15 +3,7 @@
 //!
 //! `./bench`; ROUTES sets how many routes (1,000) and SEED the seed (1).
 //!
-//! Sites:
-//! - grid: 10 by 10 cells with a standing and a rolling state each; motions between neighbouring cells that speed up
-//!   (span 2), roll on (span 1) or slow down (span 2 or 3), 1,000 chosen of all.
-//! - random: 100 cells, 60 in 100 states standing; motions between any two states, span 1 to 8, 1 to 4 sweeps.
-//! - long: 200 cells, as random, with span 10 to 120 and 1 to 16 sweeps.
-//! - corridor: states in a row, standing and rolling in turn; motions to the next few states either way, span 2 to 9.
-//!
-//! Boards: held in short runs (1 to 4 ticks), in long runs (5 to 60 ticks), both up to nine in a hundred pairs, or in
-//! few runs (one in a hundred). Where the goal is nearer, its cell is held from tick 0 up to a tick of 400 to 900.
+//! HOW, which is printed first, says how sites and boards are made.
 
 use dispatch_tests::desk::{self, Answer};
 use dispatch_tests::gen::{motion_between, Rng};
@@ -19,6 +11,16 @@ use dispatch_tests::literal::{encode, Motion, Site, State, Sweep};
 use dispatch_tests::plain;
 use std::hint::black_box;
 use std::time::Instant;
+
+const HOW: &str = "\
+Sites:
+- grid: 10 by 10 cells with a standing and a rolling state each; motions between neighbouring cells that speed up
+  (span 2), roll on (span 1) or slow down (span 2 or 3), 1,000 chosen of all.
+- random: 100 cells, 60 in 100 states standing; motions between any two states, span 1 to 8, 1 to 4 sweeps.
+- long: 200 cells, as random, with span 10 to 120 and 1 to 16 sweeps.
+- corridor: states in a row, standing and rolling in turn; motions to the next few states either way, span 2 to 9.
+Boards: held in short runs (1 to 4 ticks), in long runs (5 to 60 ticks), both up to nine in a hundred pairs, or in
+few runs (one in a hundred). Where the goal is nearer, its cell is held from tick 0 up to a tick of 400 to 900.";
 
 const STATES: usize = 200;
 const MOTIONS: usize = 1_000;
@@ -159,7 +161,7 @@ fn setting(name: &str, default: u64) -> u64 {
 
 fn main() {
     let (routes, seed) = (setting("ROUTES", 1_000) as usize, setting("SEED", 1));
-    println!("{routes} routes, seed {seed}; microseconds for the whole call, median");
+    println!("{HOW}\n\n{routes} routes, seed {seed}; microseconds for the whole call, checks and zeroed words included, median");
     let mut rng = Rng::new(seed);
     let needed = STATES * (H + 1);
     let (mut out, mut work) = (vec![0; 16 + 5 * H], vec![0; needed]);
