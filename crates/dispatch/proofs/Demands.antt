@@ -1,9 +1,8 @@
 -- The demands, of the public calls themselves: over what their contracts promise, and nothing else of the code.
--- `Learnt κs arguments result exits` of a function's `Reads` is what its contract ensures: of the arguments at entry, the result, and the
--- parameters as the function leaves them. `κs` are the lifetimes of the call's references, and a reference's list is `now` of it.
+-- `Learnt` and its arguments are those of crates/board_calls/proofs/Exact.antt.
 -- Assumes nothing.
 use Prim.Native.Nat.{ℕ}
-use mathlib.Core.Path.{_≡_, refl, ap, _∙_}
+use mathlib.Core.Path.{refl}
 use mathlib.Core.List.{List, []}
 use contract.Lifetimes.{Lfts}
 use denote.Ref.{RefT, now}
@@ -11,20 +10,21 @@ use Rattle.meaning.specs.Calls.{PublicCall, opening, interval, listed, Call, ro
 use Rattle.meaning.specs.Demands.{Exact, Demand1, Demand2, Demand3, Follows}
 use Rattle.meaning.proofs.Theorems.{exact-demands}
 use Rattle.meaning.specs.Plan.{node}
-use Rattle.dispatch.specs.declared.Answer.{Answer}
-use Rattle.dispatch.specs.declared.Counted.{Counted}
-use Rattle.dispatch.specs.declared.Granted.{Granted}
-use Rattle.dispatch.specs.Answers.{numberOf, answerOf, countedNumber, countedValues, countedOf, grantedNumber, grantedValues, grantedOf}
-use Rattle.dispatch.proofs.Laws.{answer-number, counted-number, counted-values}
-use Rattle.dispatch.proofs.RouteLaws.{granted-number, granted-values}
-use Rattle.dispatch.proofs.Desks.{boardDone, board-exact, audit-exact, interval-exact, route-exact, lend, turns, allows-meant, every-run}
-use Rattle.dispatch.proofs.open.Reads as open-reads
-use Rattle.dispatch.proofs.interval.Reads as interval-reads
-use Rattle.dispatch.proofs.route.Reads as route-reads
-use Rattle.dispatch.proofs.audit.Reads as audit-reads
-use Rattle.dispatch.proofs.post.Reads as post-reads
-use Rattle.dispatch.proofs.close.Reads as close-reads
-use Rattle.dispatch.proofs.withdraw.Reads as withdraw-reads
+use Rattle.answers.specs.declared.Answer.{Answer}
+use Rattle.answers.specs.declared.Counted.{Counted}
+use Rattle.answers.specs.declared.Granted.{Granted}
+use Rattle.answers.specs.Answers.{numberOf, answerOf, countedNumber, countedValues, countedOf, grantedNumber, grantedValues, grantedOf}
+use Rattle.answers.proofs.Desks.{boardDone, lend, turns, allows-meant, every-run}
+use Rattle.board_calls.proofs.Exact.{open-meant, interval-meant, close-meant, withdraw-meant}
+use Rattle.light_calls.proofs.Exact.{audit-meant, post-meant}
+use Rattle.route_call.proofs.Exact.{route-meant}
+use Rattle.board_calls.proofs.open.Reads as open-reads
+use Rattle.board_calls.proofs.interval.Reads as interval-reads
+use Rattle.route_call.proofs.route.Reads as route-reads
+use Rattle.light_calls.proofs.audit.Reads as audit-reads
+use Rattle.light_calls.proofs.post.Reads as post-reads
+use Rattle.board_calls.proofs.close.Reads as close-reads
+use Rattle.board_calls.proofs.withdraw.Reads as withdraw-reads
 
 -- `Calls file lent call done`: the contract of the call's function allows this answer and these areas after it
 pub data Calls : List ℕ → Lent → PublicCall → Done → Type 0 where
@@ -52,29 +52,15 @@ pub data Calls : List ℕ → Lent → PublicCall → Done → Type 0 where
       → withdraw-reads.Learnt κs (file, (board, (h, tt))) r (file, (left, (h, tt)))
       → Calls (now file) (lends (now board) out words) (listed (withdraw h)) (boardDone (numberOf r) (now left) out words)
 
--- the number that an answer says
-answered : (r : Answer) (n : ℕ) → r ≡ answerOf n → numberOf r ≡ n
-answered r n same = ap numberOf same ∙ answer-number n
-
 -- each contract is one equation to the definitions' desk
 pub exact : Exact Calls
-exact file l q d (Calls.opens κs f board left out words r p) = board-exact (now f) (now board) out words (now left) opening tt (numberOf r) (answered r _ (p .0)) (p .1)
-exact file l q d (Calls.counts κs f board out left cell words r p) =
-    let lent : Lent = lends (now board) (now out) [] in
-    interval-exact (now f) (now board) (now out) words cell (countedNumber r) (countedValues r) (now left)
-    (ap countedNumber (p .0) ∙ counted-number (now f) lent cell) (ap countedValues (p .0) ∙ counted-values (now f) lent cell) (p .1)
-exact file l q d (Calls.routes κs f board out words left cleared tug start tick goal r p) =
-    let lent : Lent = lends (now board) (now out) (now words) in
-    route-exact (now f) lent tug (node start tick) goal (grantedNumber r) (grantedValues r) (now left) (now cleared)
-    (ap grantedNumber (p .0) ∙ granted-number (now f) lent tug start tick goal) (ap grantedValues (p .0) ∙ granted-values (now f) lent tug start tick goal)
-    (p .1 .0) (p .1 .1)
-exact file l q d (Calls.audits κs f board light out words r p) = audit-exact (now f) (now board) out words (now light) (numberOf r) (answered r _ p)
-exact file l q d (Calls.posts κs f board light left out words r p) =
-    board-exact (now f) (now board) out words (now left) (listed (post (now light))) tt (numberOf r) (answered r _ (p .0)) (p .1)
-exact file l q d (Calls.closes κs f board left h cell first last out words r p) =
-    board-exact (now f) (now board) out words (now left) (listed (close h cell first last)) tt (numberOf r) (answered r _ (p .0)) (p .1)
-exact file l q d (Calls.withdraws κs f board left h out words r p) =
-    board-exact (now f) (now board) out words (now left) (listed (withdraw h)) tt (numberOf r) (answered r _ (p .0)) (p .1)
+exact file l q d (Calls.opens κs f board left out words r p) = open-meant f board left out words r κs p
+exact file l q d (Calls.counts κs f board out left cell words r p) = interval-meant f board out left words r κs cell p
+exact file l q d (Calls.routes κs f board out words left cleared tug start tick goal r p) = route-meant f board out words left cleared r κs tug start tick goal p
+exact file l q d (Calls.audits κs f board light out words r p) = audit-meant f board light out words r κs p
+exact file l q d (Calls.posts κs f board light left out words r p) = post-meant f board light out words r κs left p
+exact file l q d (Calls.closes κs f board left h cell first last out words r p) = close-meant f board left out words r κs h cell first last p
+exact file l q d (Calls.withdraws κs f board left h out words r p) = withdraw-meant f board left out words r κs h p
 
 -- So each call returns and writes exactly what document 01 says; the intervals are all safe intervals and the audit is right; and after
 -- every list of calls, of any length, the board and all answers are the plain board's, with routes that are complete and earliest.

@@ -1,4 +1,1 @@
-pub mod Laws
-pub mod RouteLaws
-pub mod Desks
 pub mod Demands

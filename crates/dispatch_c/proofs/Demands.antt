@@ -1,5 +1,5 @@
 -- The demands, of the exported functions: over what their contracts promise, and nothing else of the code, with the number and the
--- values read back from the word that is returned. `Learnt` and its arguments are those of crates/dispatch/proofs/Demands.antt.
+-- values read back from the word that is returned. `Learnt` and its arguments are those of crates/board_calls/proofs/Exact.antt.
 -- Assumes nothing.
 use Prim.Native.Nat.{ℕ}
 use mathlib.Core.Path.{_≡_, refl}
@@ -11,8 +11,8 @@ use Rattle.meaning.specs.Demands.{Exact, Demand1, Demand2, Demand3, Follows}
 use Rattle.meaning.proofs.AreaLaws.{BoardCall}
 use Rattle.meaning.proofs.Theorems.{exact-demands}
 use Rattle.meaning.specs.Plan.{node}
-use Rattle.dispatch.specs.Answers.{countedOf, grantedOf}
-use Rattle.dispatch.proofs.Desks.{boardDone, board-exact, audit-exact, interval-exact, route-exact, lend, turns, allows-meant, every-run}
+use Rattle.answers.specs.Answers.{countedOf, grantedOf}
+use Rattle.answers.proofs.Desks.{boardDone, board-exact, audit-exact, interval-exact, route-exact, lend, turns, allows-meant, every-run}
 use Rattle.dispatch_c.specs.Words.{countedWord, grantedWord, wordNumber, countedIn, grantedIn}
 use Rattle.dispatch_c.proofs.WordLaws.{number-back, interval-back, route-back}
 use Rattle.dispatch_c.proofs.dispatch_open.Reads as open-reads

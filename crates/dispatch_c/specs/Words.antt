@@ -2,10 +2,10 @@
 -- Assumes nothing.
 use Prim.Native.Nat.{ℕ, zero, suc, _+_, _*_, _/_, _%_}
 use mathlib.Core.List.{List, [], _∷_}
-use Rattle.dispatch.specs.declared.Counted.{Counted}
-use Rattle.dispatch.specs.declared.Counted.the-variants as C
-use Rattle.dispatch.specs.declared.Granted.{Granted}
-use Rattle.dispatch.specs.declared.Granted.the-variants as G
+use Rattle.answers.specs.declared.Counted.{Counted}
+use Rattle.answers.specs.declared.Counted.the-variants as C
+use Rattle.answers.specs.declared.Granted.{Granted}
+use Rattle.answers.specs.declared.Granted.the-variants as G
 
 -- ---- the word: the number, and beside 0 the count or the light's length times 2 ^ 8 and the arrival times 2 ^ 32
 

@@ -6,7 +6,7 @@ ghost use mathlib.Core.Path.{_≡_};
 ghost use mathlib.Core.List.{[]};
 ghost use Rattle.meaning.specs.Calls.{opening, interval, listed, route, audit, post, close, withdraw, meant, lends, onBoard};
 ghost use Rattle.meaning.specs.Plan.{node};
-ghost use Rattle.dispatch.specs.Answers.{numberOf, countedOf, grantedOf};
+ghost use Rattle.answers.specs.Answers.{numberOf, countedOf, grantedOf};
 ghost use Rattle.dispatch_c.specs.Words.{countedWord, grantedWord};
 
 fn answer_word(a: Answer) -> u64

@@ -3,7 +3,7 @@ ghost use mathlib.Core.Path.{_≡_};
 ghost use Prim.Native.Nat.{_*_, _≤_, _<_};
 ghost use lib.ListN.{length};
 ghost use Rattle.moves.specs.Arrays.{States, Motions};
-ghost use Rattle.moves.specs.Sets.{WaitClosed, MoveClosed, Below, Closed, Step, Settled, Waited, Moved};
+ghost use Rattle.moves.specs.Sets.{WaitClosed, MoveClosed, Step, Waited, Moved};
 
 pub fn wide(x: u16) -> usize
     ensures { λ r. ⌜ r ≡ x ⌝ }

@@ -8,12 +8,12 @@ use Rattle.meaning.specs.Limits.{dayArea, dayWords}
 use Rattle.meaning.specs.Calls.{Call, listed, route, Lent, onBoard, lends, Done, meant}
 use Rattle.meaning.specs.Day.{Day, dayDone, arrivalOf, lastLight, dayAfter}
 use Rattle.meaning.proofs.AreaLaws.{BoardCall, board-alone}
-use Rattle.dispatch.specs.declared.Answer.{Answer}
-use Rattle.dispatch.specs.declared.Granted.{Granted}
-use Rattle.dispatch.specs.declared.Granted.the-variants as G
-use Rattle.dispatch.specs.Answers.{numberOf, answerOf, grantedNumber, grantedValues, grantedOf}
-use Rattle.dispatch.proofs.Laws.{answer-number}
-use Rattle.dispatch.proofs.RouteLaws.{granted-number, granted-values}
+use Rattle.answers.specs.declared.Answer.{Answer}
+use Rattle.answers.specs.declared.Granted.{Granted}
+use Rattle.answers.specs.declared.Granted.the-variants as G
+use Rattle.answers.specs.Answers.{numberOf, answerOf, grantedNumber, grantedValues, grantedOf}
+use Rattle.answers.proofs.Laws.{answer-number}
+use Rattle.route_call.proofs.Laws.{granted-number, granted-values}
 use Rattle.script.specs.declared.Told.{Told}
 use Rattle.script.specs.Turns.{changedTold, routedTold, dayAt, Performed}
 use Rattle.script.proofs.AreaLaws.{Alike, areas-alike, route-board, no-light}

@@ -24,9 +24,9 @@ use Rattle.site.specs.declared.Layout.{Layout}
 use Rattle.site.specs.declared.SiteCheck.the-variants as SiteCheck
 use Rattle.site.proofs.Accepted.{accepted-read, accepted-layout, refused-read}
 use Rattle.calls.proofs.Laws.{size-small}
-use Rattle.dispatch.specs.declared.Answer.the-variants as A
-use Rattle.dispatch.specs.Answers.{numberOf, answerOf}
-use Rattle.dispatch.proofs.Laws.{answer-number}
+use Rattle.answers.specs.declared.Answer.the-variants as A
+use Rattle.answers.specs.Answers.{numberOf, answerOf}
+use Rattle.answers.proofs.Laws.{answer-number}
 use Rattle.script.specs.declared.Opening.the-variants.{Opened, Refused}
 use Rattle.script.specs.Turns.{startBy, Opens}
 

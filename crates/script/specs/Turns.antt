@@ -11,10 +11,10 @@ use Rattle.meaning.specs.Limits.{header, dayArea, dayWords}
 use Rattle.meaning.specs.Fields.{Fields}
 use Rattle.meaning.specs.Calls.{Call}
 use Rattle.meaning.specs.Day.{Day, dayDone, arrivalOf, lineOf, dayAfter, textOf, texts, lineNext, dayNext}
-use Rattle.dispatch.specs.declared.Answer.{Answer}
-use Rattle.dispatch.specs.declared.Granted.{Granted}
-use Rattle.dispatch.specs.declared.Granted.the-variants as G
-use Rattle.dispatch.specs.Answers.{numberOf}
+use Rattle.answers.specs.declared.Answer.{Answer}
+use Rattle.answers.specs.declared.Granted.{Granted}
+use Rattle.answers.specs.declared.Granted.the-variants as G
+use Rattle.answers.specs.Answers.{numberOf}
 use Rattle.script.specs.declared.Told.{Told}
 use Rattle.script.specs.declared.Outcome.{Outcome}
 use Rattle.script.specs.declared.Opening.{Opening}

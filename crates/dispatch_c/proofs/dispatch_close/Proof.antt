@@ -2,8 +2,8 @@
 -- Assumes nothing.
 use mathlib.Core.Path.{ap, _∙_}
 use borrow.Author.Needs.{needs}
-use Rattle.dispatch.specs.Answers.{numberOf}
-use Rattle.dispatch.proofs.Laws.{answer-number}
+use Rattle.answers.specs.Answers.{numberOf}
+use Rattle.answers.proofs.Laws.{answer-number}
 use Rattle.dispatch_c.proofs.dispatch_close.Statement.{statement}
 use Rattle.dispatch_c.proofs.dispatch_close.Tie as tie
 

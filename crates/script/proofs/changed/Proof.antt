@@ -2,7 +2,7 @@
 -- Assumes nothing.
 use mathlib.Core.Path.{sym, ap}
 use borrow.Author.Needs.{needs}
-use Rattle.dispatch.specs.declared.Answer.{Answer}
+use Rattle.answers.specs.declared.Answer.{Answer}
 use Rattle.script.specs.Turns.{changedTold}
 use Rattle.script.proofs.changed.Statement.{statement}
 use Rattle.script.proofs.changed.Tie as tie

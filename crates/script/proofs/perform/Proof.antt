@@ -52,7 +52,7 @@ slice-aggregate-post c =
     let s = c .before .before .before .before .before .before .before .before in
     let size = s .pre .out-size in
     let few = s .pre .light-inside in
-    sym (length-take-le (s .args .light) (s .args .out .now) (omega arith))
+    sym (length-take-le _ (s .args .out .now) (omega arith))
 
 post-requires : tie.Need-post-requires
 post-requires c κs = search needs

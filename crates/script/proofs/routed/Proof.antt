@@ -3,7 +3,7 @@
 use native.Mathlib.Omega.{arith}
 use mathlib.Core.Path.{sym, ap}
 use borrow.Author.Needs.{needs}
-use Rattle.dispatch.specs.declared.Granted.{Granted}
+use Rattle.answers.specs.declared.Granted.{Granted}
 use Rattle.script.specs.Turns.{routedTold}
 use Rattle.script.proofs.routed.Statement.{statement}
 use Rattle.script.proofs.routed.Tie as tie

@@ -1,0 +1,2 @@
+pub mod IntervalLaws
+pub mod Exact
