@@ -1,18 +1,14 @@
--- Laws of arrays that are filled two or five numbers at a time, and of the sweeps of a file by place.
+-- Laws of arrays that are filled two or five numbers at a time.
 -- Assumes nothing.
-use Prim.Native.Nat.{ℕ, zero, suc, _+_, _*_, _-_, _≤_, _<_}
-use mathlib.Core.Path.{_≡_, refl, sym, ap, _∙_, subst}
-use mathlib.Core.List.{List, _∷_}
+use Prim.Native.Nat.{ℕ, _+_, _*_, _-_, _<_}
+use mathlib.Core.Path.{_≡_, refl, sym, _∙_, subst}
+use mathlib.Core.List.{List}
 use mathlib.Core.Bool.{Bool, true, false}
 use native.Mathlib.Omega.{arith}
 use lib.ListN.{length, getD, set, length-set}
 use lib.Seq.{getD-set-same, getD-set-other}
 use lib.Dec.{eqb}
 use borrow.Author.Tests.{eqb-true, eqb-false}
-use Rattle.meaning.specs.Site.{Sweep}
-use Rattle.sweeps.specs.Places.{sweepAt, sweepsAt}
-use Rattle.sweeps.proofs.Laws.{sweeps-none, sweeps-next}
-use Rattle.reach.specs.Decoded as R
 use Rattle.site.specs.declared.Move.{Move}
 use Rattle.decode.specs.Decodes.{two, stored, moveAt}
 
@@ -110,12 +106,3 @@ motions-more P xs n r l f p k q = go (eqb k n) refl
         let d = eqb-false k n e in
         let h : k < n = omega arith in
         subst (P k) (sym (stored-before xs n r k h)) (f k h)
-
--- ---- the sweeps by place, as the search reads them
-
-pub same-sweeps : (n : ℕ) (file : List ℕ) (p : ℕ) → p + 3 * n ≤ length file → R.sweepsAt file p n ≡ sweepsAt file p n
-unfolding R.sweepsAt
-same-sweeps zero file p h = sym (sweeps-none file p 0 refl)
-same-sweeps (suc n) file p h =
-    let m : suc n - 1 ≡ n = omega arith in
-    ap (λ (ws : List Sweep). sweepAt file p ∷ ws) (same-sweeps n file (p + 3) (omega arith)) ∙ sym (rw m at (sweeps-next file p (suc n) (omega arith) h))

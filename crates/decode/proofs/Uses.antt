@@ -16,10 +16,9 @@ use Rattle.sweeps.proofs.Laws.{sweeps-length, sweeps-at}
 use Rattle.site.specs.declared.Move.{Move}
 use Rattle.site.specs.Motions.{Shows}
 use Rattle.site.proofs.Laws.{Reached, reached-more, reached-place}
-use Rattle.moves.specs.Arrays.{States, Motions, placeAt, countAt}
+use Rattle.moves.specs.Arrays.{States, Motions}
 use Rattle.reach.specs.Decoded.{Decoded, SweepsIn, Sweeps}
 use Rattle.decode.specs.Decodes.{StatesHeld, Small, moveAt, MotionsHeld}
-use Rattle.decode.proofs.Laws.{same-sweeps}
 
 module _ (file : List ℕ) (e : readSite file ≡ accepted (siteOf file)) where
   abbrev site : Site
@@ -120,7 +119,5 @@ module _ (file : List ℕ) (e : readSite file ≡ accepted (siteOf file)) where
         from = λ m h. motions m (omega arith) .shows .from;
         to = λ m h. motions m (omega arith) .shows .to;
         span = λ m h. motions m (omega arith) .shows .span;
-        sweeps = λ m h.
-            let x = motions m (omega arith) .shows in
-            same-sweeps (countAt mv m) file (placeAt mv m) (x .inside) ∙ x .sweeps;
+        sweeps = λ m h. motions m (omega arith) .shows .sweeps;
       }

@@ -11,6 +11,7 @@ use lib.Pow.{pow-pos}
 use lib.ListN.{length, getD, replicate, length-replicate, getD-replicate}
 use borrow.Author.Tests.{eqb-true, eqb-false}
 use Rattle.meaning.specs.Basics.{all}
+use Rattle.meaning.specs.Site.{Sweep}
 use Rattle.meaning.specs.Board.{Free}
 use Rattle.meaning.specs.Plan.{freeFromTo, sweepsFree}
 use Rattle.meaning.proofs.BasicsLaws.{decide}
@@ -19,7 +20,9 @@ use Rattle.rows.specs.Rows.{has, Changed}
 use Rattle.rows.proofs.BitLaws.{odd-of}
 use Rattle.rows.proofs.RowLaws.{has-is}
 use Rattle.frees.specs.Frees.{rowsFree}
-use Rattle.reach.specs.Decoded.{sweepsAt, sweepsOf, Starts}
+use Rattle.sweeps.specs.Places.{sweepsAt}
+use Rattle.sweeps.proofs.Laws.{sweeps-none, sweeps-next}
+use Rattle.reach.specs.Decoded.{sweepsOf, Starts}
 use Rattle.moves.specs.Arrays.{placeAt, countAt}
 
 -- ---- the sweeps of one motion: what is left to test, with the row as it is, is the whole test of the row as it was
@@ -40,34 +43,34 @@ narrowing-start sw f l m p n =
       sized = refl;
     }
 
-sweeps-first : (sw : List ℕ) (f : Free) (place n i cell first last t : ℕ) → i < n → cell ≡ getD sw place 0 → first ≡ getD sw (place + 1) 0 → last ≡ getD sw (place + 2) 0
+sweeps-first : (sw : List ℕ) (f : Free) (place n i cell first last t : ℕ) → i < n → place + 3 * (n - i) ≤ length sw → cell ≡ getD sw place 0 → first ≡ getD sw (place + 1) 0 → last ≡ getD sw (place + 2) 0
     → sweepsFree f (sweepsAt sw place (n - i)) t ≡ (freeFromTo f cell (t + first) (t + last) && sweepsFree f (sweepsAt sw (place + 3) (n - (i + 1))) t)
-unfolding sweepsAt all
-sweeps-first sw f place n i cell first last t lt a b c =
-    let more : n - i ≡ suc (n - (i + 1)) = omega arith in
-    ap (λ (j : ℕ). sweepsFree f (sweepsAt sw place j) t) more ∙ rw (a, b, c)
+unfolding all
+sweeps-first sw f place n i cell first last t lt long a b c =
+    let less : n - i - 1 ≡ n - (i + 1) = omega arith in
+    ap (λ (ws : List Sweep). sweepsFree f ws t) (sweeps-next sw place (n - i) (omega arith) long) ∙ rw (less, a, b, c)
 
-pub narrowing-turn : (sw : List ℕ) (f : Free) (l₀ l l′ : List ℕ) (m p n place i cell first last : ℕ) → i < n
+pub narrowing-turn : (sw : List ℕ) (f : Free) (l₀ l l′ : List ℕ) (m p n place i cell first last : ℕ) → i < n → p + n * 3 ≤ length sw
     → cell ≡ getD sw place 0 → first ≡ getD sw (place + 1) 0 → last ≡ getD sw (place + 2) 0
     → Changed l l′ m (λ (t : ℕ). has l m t && freeFromTo f cell (t + first) (t + last))
     → Narrowing sw f l₀ l m p n place i → Narrowing sw f l₀ l′ m p n (place + 3) (i + 1)
-narrowing-turn sw f l₀ l l′ m p n place i cell first last lt a b c step g =
+narrowing-turn sw f l₀ l l′ m p n place i cell first last lt long a b c step g =
+    let left-long : place + 3 * (n - i) ≤ length sw = omega (arith, g .at-place) in
     record {
       at-place = omega (arith, g .at-place);
       left = λ t h.
           let rest : Bool = sweepsFree f (sweepsAt sw (place + 3) (n - (i + 1))) t in
           ap (λ (x : Bool). x && rest) (step .here t h)
           ∙ and-assoc (has l m t) (freeFromTo f cell (t + first) (t + last)) rest
-          ∙ ap (λ (x : Bool). has l m t && x) (sym (sweeps-first sw f place n i cell first last t lt a b c))
+          ∙ ap (λ (x : Bool). has l m t && x) (sym (sweeps-first sw f place n i cell first last t lt left-long a b c))
           ∙ g .left t h;
       others = λ x t ne h. step .others x t ne h ∙ g .others x t ne h;
       sized = step .sized ∙ g .sized;
     }
 
 no-sweeps : (sw : List ℕ) (f : Free) (place t j : ℕ) → j ≡ 0 → sweepsFree f (sweepsAt sw place j) t ≡ true
-unfolding sweepsAt all
-no-sweeps sw f place t zero e = refl
-no-sweeps sw f place t (suc j) e = absurd (omega arith)
+unfolding all
+no-sweeps sw f place t j e = ap (λ (ws : List Sweep). sweepsFree f ws t) (sweeps-none sw place j e)
 
 pub narrowing-end : (sw : List ℕ) (f : Free) (l₀ l : List ℕ) (m p n place i : ℕ) → n ≤ i → Narrowing sw f l₀ l m p n place i
     → Changed l₀ l m (λ (t : ℕ). has l₀ m t && sweepsFree f (sweepsAt sw p n) t)

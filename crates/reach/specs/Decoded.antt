@@ -1,26 +1,21 @@
 -- Which site the arrays hold: its states and motions (see Arrays), and three bytes a sweep (cell, first, last).
 -- Assumes nothing.
-use Prim.Native.Nat.{ℕ, zero, suc, _+_, _*_, _-_, _≤_, _<_}
+use Prim.Native.Nat.{ℕ, _+_, _*_, _-_, _≤_, _<_}
 use mathlib.Core.Path.{_≡_}
 use mathlib.Core.Bool.{Bool, _&&_}
-use mathlib.Core.List.{List, [], _∷_}
+use mathlib.Core.List.{List}
 use lib.Dec.{leb}
 use lib.ListN.{length, getD}
 use Rattle.meaning.specs.Site.{Site, Sweep, stateAt, motionAt}
 use Rattle.meaning.specs.Board.{Free}
 use Rattle.meaning.specs.Plan.{Node, sweepsFree}
 use Rattle.meaning.specs.Reach.{reached}
+use Rattle.sweeps.specs.Places.{sweepsAt}
 use Rattle.moves.specs.Arrays.{cellAt, speedAt, fromAt, toAt, spanAt, placeAt, countAt}
 use Rattle.rows.specs.Rows.{has}
 use Rattle.frees.specs.Frees.{rowsFree}
 
--- ---- the sweeps
-
--- the sweeps of n times three bytes from place p on
-unfoldable pub sweepsAt : List ℕ → ℕ → ℕ → List Sweep
-sweepsAt sw p zero = []
-sweepsAt sw p (suc n) = record { cell = getD sw p 0; first = getD sw (p + 1) 0; last = getD sw (p + 2) 0 } ∷ sweepsAt sw (p + 3) n
-
+-- the sweeps of motion m
 abbrev pub sweepsOf : List ℕ → List ℕ → ℕ → List Sweep
 sweepsOf mv sw m = sweepsAt sw (placeAt mv m) (countAt mv m)
 

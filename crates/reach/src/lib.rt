@@ -9,7 +9,8 @@ ghost use Rattle.rows.specs.Rows.{has, Words, Changed};
 ghost use Rattle.frees.specs.Frees.{rowsFree, Runs};
 ghost use Rattle.moves.specs.Arrays.{cellAt, States, Motions};
 ghost use Rattle.moves.specs.Sets.{Closed, Explored};
-ghost use Rattle.reach.specs.Decoded.{sweepsAt, SweepsIn, Sweeps, Starts};
+ghost use Rattle.sweeps.specs.Places.{sweepsAt};
+ghost use Rattle.reach.specs.Decoded.{SweepsIn, Sweeps, Starts};
 
 fn byte(x: u8) -> usize
     ensures { λ r. ⌜ (r ≡ x) × (r < 256) ⌝ }

@@ -36,11 +36,11 @@ pub data Progress (l₀ l : List ℕ) (Q : Type 0) : Type 0 where
   more : total l₀ < total l → Progress l₀ l Q
   quiet : l ≡ l₀ → Q → Progress l₀ l Q
 
--- no other growth is noted in g than in g₀
+-- what is noted of each state in g is what g₀ has
 abbrev pub Unnoted : List ℕ → List ℕ → Type 0
 Unnoted g₀ g = (x : ℕ) → getD g x 0 ≡ getD g₀ x 0
 
--- and none of s
+-- the same but for s, of which no growth is noted
 pub record UnnotedBut (g₀ g : List ℕ) (s : ℕ) : Type 0 where
   pub here : getD g s 0 ≡ 0
   pub others : (x : ℕ) → (x ≡ s → ⊥) → getD g x 0 ≡ getD g₀ x 0

@@ -89,7 +89,7 @@ loop-again c =
         done .0 ∙ i .0,
         (
           omega (arith, i .1 .0),
-          λ f r. narrowing-turn _ _ _ _ _ _ _ _ _ _ _ _ _ (in-loop .loop-test .taken)
+          λ f r. narrowing-turn _ _ _ _ _ _ _ _ _ _ _ _ _ (in-loop .loop-test .taken) (a .before .before .before .before .pre .1 .long)
               (after-byte .byte .ensures .0) (after-byte2 .byte2 .ensures .0) (after-byte3 .byte3 .ensures .0)
               (done .1 f r) (i .1 .1 f r),
         ),
