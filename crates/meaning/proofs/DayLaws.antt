@@ -1,21 +1,25 @@
--- The day program, turn by turn.
+-- Laws of the day program: turn by turn, the last granted light, and digits.
 -- Assumes nothing.
-use Prim.Native.Nat.{ℕ, suc, _+_, _*_, _≤_, _<_}
+use Prim.Native.Nat.{ℕ, zero, suc, _+_, _-_, _*_, _/_, _%_, _≤_, _<_}
 use native.Mathlib.Omega.{arith}
 use mathlib.Core.Path.{_≡_, refl, sym, ap, _∙_}
 use mathlib.Core.Bool.{false, and-false}
 use mathlib.Core.Option.{Option, none, some}
 use mathlib.Core.List.{List, [], _∷_, _++_}
-use lib.Dec.{leb, eqb}
-use lib.ListN.{length, take, drop, length-drop}
-use lib.Seq.{take-all, length-take-le, take-nil, drop-drop}
-use borrow.Author.Tests.{le-leb, lt-leb, leb-true, leb-false, ne-eqb}
-use Rattle.meaning.specs.Limits.{routeSize}
+use lib.Dec.{leb, ltb, eqb}
+use lib.ListN.{length, take, drop, replicate, length-drop}
+use lib.Seq.{take-all, length-take-le, take-nil, drop-drop, take-append-seam}
+use borrow.Author.Tests.{le-leb, lt-leb, leb-true, leb-false, ltb-true, ltb-false, ne-eqb}
+use Rattle.meaning.specs.Limits.{routeSize, dayArea, dayWords}
 use Rattle.meaning.specs.Fields.{Field, Fields, end, cut, next, fields}
-use Rattle.meaning.specs.Calls.{Call}
-use Rattle.meaning.specs.Day.{Day, isField, callOf, lineThen, linesFrom, wanted, piece, lineNext, dayBy, dayNext, linesOn}
+use Rattle.meaning.specs.Site.{siteOf}
+use Rattle.meaning.specs.Plan.{Node}
+use Rattle.meaning.specs.Light.{encode}
+use Rattle.meaning.specs.Calls.{Call, route, listed, bytesView, Lent, lends, grantedLight, Done, acceptedDone}
+use Rattle.meaning.specs.Day.{Day, isField, callOf, dayDone, dayAfter, lineThen, linesFrom, decimalBy, decimal, numberIn, wanted, piece, lineNext, dayBy, dayNext, linesOn}
 use Rattle.meaning.specs.Laws.{DayRight}
 use Rattle.meaning.proofs.BasicsLaws.{decide}
+use Rattle.meaning.proofs.CallLaws.{meant-accepted}
 use Rattle.meaning.proofs.FieldsLaws.{fields-end, fields-short, fields-cut, fields-next}
 
 -- no call has a value longer than a route's
@@ -104,5 +108,34 @@ module _ (file : List ℕ) (d : Day) where
       (λ r. let short = leb-false (h * 256 + l) (length s) r in cut-turn (t ∷ h ∷ l ∷ s) (omega arith) (fields-cut (t ∷ h ∷ l ∷ s) (omega arith) (omega arith))))
       (λ q. long-turn t h l s (leb-false _ _ q))
 
+-- ---- the last granted light
+
+last-light : (file : List ℕ) (d : Day) (tug : ℕ) (a : Node) (goal : ℕ) → dayDone file d (route tug a goal) .number ≡ 0
+    → dayAfter d (dayDone file d (route tug a goal)) .light ≡ encode (grantedLight (siteOf file) (bytesView (siteOf file) (d .board)) tug a goal)
+unfolding dayDone acceptedDone
+last-light file d tug a goal granted =
+    let l : Lent = lends (d .board) (replicate dayArea 0) (replicate dayWords 0) in
+    let light : List ℕ = encode (grantedLight (siteOf file) (bytesView (siteOf file) (d .board)) tug a goal) in
+    ap (λ (x : Done). dayAfter d x .light) (meant-accepted file l (listed (route tug a goal)) granted)
+    ∙ take-append-seam light (drop (length light) (replicate dayArea 0))
+
+-- ---- digits
+
+one-more : (before c : ℕ) (cs : List ℕ) → numberIn before (cs ++ (c ∷ [])) ≡ numberIn before cs * 10 + (c - 48)
+one-more before c [] = refl
+one-more before c (b ∷ cs) = one-more (before * 10 + (b - 48)) c cs
+
+digits-by : (k n : ℕ) → n < k → numberIn 0 (decimalBy k n) ≡ n
+digits-by zero n h = absurd (omega arith)
+digits-by (suc k) n h =
+    decide (ltb n 10)
+    (λ e. let small = ltb-true n 10 e in rw e (omega arith))
+    (λ e. let large = ltb-false n 10 e in
+    rw e (one-more 0 (48 + n % 10) (decimalBy k (n / 10)) ∙ rw (digits-by k (n / 10) (omega arith)) (omega arith)))
+
+digits : (n : ℕ) → numberIn 0 (decimal n) ≡ n
+unfolding decimal
+digits n = digits-by (suc n) n (omega arith)
+
 pub day-right : DayRight
-day-right = record { turn-by-turn = λ file script d. turn-by-turn file d script }
+day-right = record { turn-by-turn = λ file script d. turn-by-turn file d script; last-light = last-light; digits = digits }

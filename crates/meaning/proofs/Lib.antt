@@ -20,5 +20,4 @@ pub mod ListLaws
 pub mod DemandLaws
 pub mod AreaLaws
 pub mod DayLaws
-pub mod FourInLine
 pub mod Theorems

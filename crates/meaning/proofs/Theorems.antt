@@ -2,7 +2,6 @@
 -- Assumes nothing.
 use Rattle.meaning.specs.Laws.{RefusalsRise, HoldersRight, SitesRight, LightsRight, PlansRight, SearchRight, IntervalsRight, HandoverRight, DayRight}
 use Rattle.meaning.specs.Demands.{Desk, Exact, meantDesk, Demand1, Demand2, Demand3}
-use Rattle.meaning.specs.FourInLine.{Starred, Computed}
 use Rattle.meaning.proofs.AnswersLaws.{refusals-rise}
 use Rattle.meaning.proofs.HolderLaws.{holders-right}
 use Rattle.meaning.proofs.SiteLaws.{sites-right}
@@ -14,7 +13,6 @@ use Rattle.meaning.proofs.HandoverLaws.{handover-right}
 use Rattle.meaning.proofs.DayLaws.{day-right}
 use Rattle.meaning.proofs.DemandLaws.{exact-demand1, exact-demand2}
 use Rattle.meaning.proofs.ListLaws.{exact-demand3}
-use Rattle.meaning.proofs.FourInLine.{starred, computed}
 
 -- ---- the laws of specs/Laws.antt
 
@@ -56,12 +54,3 @@ exact-demands desk exact = record { first = exact-demand1 desk exact; second = e
 -- and so of the definitions' own desk
 pub demands : AllDemands meantDesk
 demands = exact-demands meantDesk (λ file l q d same. same)
-
--- ---- the cases of specs/FourInLine.antt
-
-pub record AllCases : Type 0 where
-  pub with-star : Starred
-  pub without : Computed
-
-pub all-cases : AllCases
-all-cases = record { with-star = starred; without = computed }

@@ -10,15 +10,15 @@ use Rattle.meaning.specs.Limits.{fileLimit, lastTug, lastClosure}
 use Rattle.meaning.specs.Basics.{Bytes}
 use Rattle.meaning.specs.Answers.{RiseFrom, accepted}
 use Rattle.meaning.specs.Fields.{fields}
-use Rattle.meaning.specs.Site.{Site, readSite}
+use Rattle.meaning.specs.Site.{Site, siteOf, readSite}
 use Rattle.meaning.specs.Board.{Free, isTug, isClosure, isHolder}
 use Rattle.meaning.specs.Plan.{Step, Node, planEnd, planPairs}
 use Rattle.meaning.specs.Reach.{reachWord, Route, findRoute}
 use Rattle.meaning.specs.Light.{Light, encode, decode}
 use Rattle.meaning.specs.Intervals.{intervals, numbersOf}
-use Rattle.meaning.specs.Calls.{PublicCall, Lent, numbersRoom, lightRoom, refusals}
+use Rattle.meaning.specs.Calls.{PublicCall, route, Lent, bytesView, numbersRoom, lightRoom, refusals, grantedLight}
 use Rattle.meaning.specs.PlainBoard.{hasPair}
-use Rattle.meaning.specs.Day.{Day, linesFrom, piece, lineNext, dayNext, linesOn}
+use Rattle.meaning.specs.Day.{Day, dayDone, dayAfter, linesFrom, decimal, numberIn, piece, lineNext, dayNext, linesOn}
 use Rattle.meaning.specs.ValidPlans.{Valid, Reached, Arrival, Holds, Traced, mergeWaits}
 use Rattle.meaning.specs.SafeIntervals.{AllSafeIntervals}
 use Rattle.meaning.specs.WellFormed.{WellFormed, fileOf, KeepsLayout}
@@ -95,8 +95,14 @@ pub record HandoverRight : Type 0 where
       → (t : ℕ) → a .tick ≤ t → t < b .tick
       → ((c : ℕ) → Holds site a ps c (suc t) → Holds site d qs c t) → ⊥
 
--- the day program may read its script turn by turn: no more than a header, and the value that a call may have
+-- the day program
 pub record DayRight : Type 0 where
+  -- it may read its script turn by turn: no more than a header, and the value that a call may have
   pub turn-by-turn : (file script : List ℕ) (d : Day)
       → linesFrom file (fields script) d
       ≡ lineNext file (fields (piece script)) d ++ linesOn file (drop (length (piece script)) script) (dayNext file (fields (piece script)) d)
+  -- after a grant the light that a post posts is the granted one
+  pub last-light : (file : List ℕ) (d : Day) (tug : ℕ) (a : Node) (goal : ℕ) → dayDone file d (route tug a goal) .number ≡ 0
+      → dayAfter d (dayDone file d (route tug a goal)) .light ≡ encode (grantedLight (siteOf file) (bytesView (siteOf file) (d .board)) tug a goal)
+  -- the digits that are printed read as the number
+  pub digits : (n : ℕ) → numberIn 0 (decimal n) ≡ n

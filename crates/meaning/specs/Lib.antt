@@ -17,4 +17,3 @@ pub mod WellFormed
 pub mod Laws
 pub mod Demands
 pub mod EarliestOnly
-pub mod FourInLine

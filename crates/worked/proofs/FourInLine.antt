@@ -1,18 +1,18 @@
 -- The cases of 'Four in line', by computation.
 -- Assumes nothing.
 use mathlib.Core.Path.{refl}
 use Rattle.meaning.specs.Basics.{every, any, all, allBelow, within}
 use Rattle.meaning.specs.Answers.{lowest, answer}
 use Rattle.meaning.specs.Fields.{split, fields, complete, listed}
 use Rattle.meaning.specs.Site.{sweepsOf, stateOf, motionOf, headOf, laterOf, stateCount, siteOf, headGood, isState, sweepCount, isMotion, motionsLaid, layoutGood, uses, handover, endsGood, sweepsGood, motionGood, siteRefusals, readSite}
 use Rattle.meaning.specs.Board.{sortOf, isTug, isClosure, isHolder, free, stands, clear, withEdition, nextEdition}
 use Rattle.meaning.specs.Plan.{allowed, walk, startFree, planEnd, planPairs}
 use Rattle.meaning.specs.Reach.{byWait, byMotion, word, firstRow, withRow, rowsTo, trace, tracedRoute, routeIn, findRoute}
 use Rattle.meaning.specs.Light.{encode, lightOf, isLightHead, isWait, isMove, inLayout, isLight, decode}
 use Rattle.meaning.specs.Intervals.{begins, runEnd, intervalsFrom, intervals}
 use Rattle.meaning.specs.Calls.{bytesView, startNamed, runNamed, lightNamed, lightValid, routeRefusals, lightRefusals, closeRefusals, withdrawRefusals, intervalRefusals, refusals, grantedLight, changed, acceptedDone, refusedDone, meant}
 use Rattle.meaning.specs.Day.{callOf, dayDone, linesFrom, dayLines, decimal}
-use Rattle.meaning.specs.FourInLine.{called, fresh, closed, posted, lightFor, routed, boardB, boardC, boardD, boardN, lightA, postedA, Starred, Computed}
+use Rattle.worked.specs.FourInLine.{called, fresh, closed, posted, lightFor, routed, boardB, boardC, boardD, boardN, lightA, postedA, Starred, Computed}
 
 pub starred : Starred
 unfolding every any all allBelow within lowest answer split fields complete listed
