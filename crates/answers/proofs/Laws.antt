@@ -20,9 +20,10 @@ use Rattle.answers.specs.declared.Answer.{Answer}
 use Rattle.answers.specs.declared.Answer.the-variants as A
 use Rattle.answers.specs.Answers.{numberOf, answerOf}
 
-refused-keeps-board : (site : Site) (l : Lent) (n : ℕ) → l .board ≡ refusedDone site l n .lent .board
+-- a refusal leaves the board and the output area
+refused-keeps : (site : Site) (l : Lent) (n : ℕ) → (l .board ≡ refusedDone site l n .lent .board) × (l .out ≡ refusedDone site l n .lent .out)
 unfolding refusedDone
-refused-keeps-board site l n = decide (eqb n 18) (λ e. simp e) (λ e. simp e)
+refused-keeps site l n = decide (eqb n 18) (λ e. (simp e, simp e)) (λ e. (simp e, simp e))
 
 -- a refusal's number is not 0
 answer-refused : (n : ℕ) → 1 ≤ n → A.Refused n ≡ answerOf n
@@ -43,14 +44,17 @@ module _ (file : List ℕ) (lent : Lent) (q : PublicCall) where
     pub refused-not-zero : 1 ≤ n
     refused-not-zero = refused-number (layoutOf (siteOf file)) n _ e .1
 
-    pub refused-meant : meant file lent q ≡ refusedDone (siteOf file) lent n
+    refused-meant : meant file lent q ≡ refusedDone (siteOf file) lent n
     refused-meant = meant-by file lent q n (refused-number (layoutOf (siteOf file)) n _ e .0) ∙ by-refused (siteOf file) lent q n refused-not-zero
 
     pub refused-answer : A.Refused n ≡ answerOf (meant file lent q .number)
     refused-answer = answer-refused n refused-not-zero ∙ sym (ap answerOf refused-told)
 
     pub refused-board : lent .board ≡ meant file lent q .lent .board
-    refused-board = refused-keeps-board (siteOf file) lent n ∙ sym (ap (λ (d : Done). d .lent .board) refused-meant)
+    refused-board = refused-keeps (siteOf file) lent n .0 ∙ sym (ap (λ (d : Done). d .lent .board) refused-meant)
+
+    pub refused-out : lent .out ≡ meant file lent q .lent .out
+    refused-out = refused-keeps (siteOf file) lent n .1 ∙ sym (ap (λ (d : Done). d .lent .out) refused-meant)
 
   module _ (l : Layout) (e : Passed l ≡ checkBy (siteOf file) (lowest (refusals file lent q))) where
     pub accepted-meant : acceptedDone (siteOf file) lent q ≡ meant file lent q

@@ -11,7 +11,7 @@ use Rattle.answers.specs.declared.Counted.the-variants as C
 use Rattle.answers.specs.declared.Granted.{Granted}
 use Rattle.answers.specs.declared.Granted.the-variants as G
 
--- ---- open, close, withdraw: the number alone
+-- ---- open, audit, post, close, withdraw: the number alone
 
 abbrev pub numberOf : Answer → ℕ
 numberOf A.Accepted = 0

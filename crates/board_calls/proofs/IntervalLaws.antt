@@ -4,14 +4,12 @@ use Prim.Native.Nat.{ℕ, zero, suc, _≤_, _<_}
 use native.Mathlib.Omega.{arith}
 use mathlib.Core.Path.{_≡_, refl, sym, ap, _∙_}
 use mathlib.Core.List.{List, []}
-use lib.Dec.{eqb}
 use lib.ListN.{length}
 use Rattle.meaning.specs.Answers.{lowest}
 use Rattle.meaning.specs.Site.{Site, siteOf}
 use Rattle.meaning.specs.Board.{free}
 use Rattle.meaning.specs.Intervals.{Interval, intervals, numbersOf}
 use Rattle.meaning.specs.Calls.{interval, Lent, lends, over, refusals, Done, acceptedDone, refusedDone, doneBy, meant}
-use Rattle.meaning.proofs.BasicsLaws.{decide}
 use Rattle.meaning.proofs.CallLaws.{meant-number}
 use Rattle.site.specs.declared.Layout.{Layout}
 use Rattle.intervals.proofs.Laws.{fits}
@@ -20,7 +18,7 @@ use Rattle.calls.specs.Checks.{checkBy}
 use Rattle.calls.proofs.Passes.{site-says, interval-row}
 use Rattle.answers.specs.declared.Counted.the-variants as C
 use Rattle.answers.specs.Answers.{countedNumber, countedValues, countedOf, countedBy}
-use Rattle.answers.proofs.Laws.{refused-told, refused-not-zero, refused-meant, accepted-meant}
+use Rattle.answers.proofs.Laws.{refused-told, refused-not-zero, accepted-meant}
 
 -- ---- the number and the values that the answer says are those that are meant
 
@@ -45,19 +43,12 @@ counted-refused : (n : ℕ) (values : List ℕ) → 1 ≤ n → C.Refused n ≡ 
 counted-refused zero values h = absurd (omega arith)
 counted-refused (suc n) values h = refl
 
-refused-keeps-out : (site : Site) (l : Lent) (n : ℕ) → l .out ≡ refusedDone site l n .lent .out
-unfolding refusedDone
-refused-keeps-out site l n = decide (eqb n 18) (λ e. simp e) (λ e. simp e)
-
-module _ (file : List ℕ) (lent : Lent) (cell n : ℕ) (e : Refused n ≡ checkBy (siteOf file) (lowest (refusals file lent (interval cell)))) where
-  pub refused-counted : C.Refused n ≡ countedOf (meant file lent (interval cell))
-  refused-counted =
-      let values : List ℕ = meant file lent (interval cell) .values in
-      counted-refused n values (refused-not-zero file lent (interval cell) n e)
-      ∙ sym (ap (λ (k : ℕ). countedBy k values) (refused-told file lent (interval cell) n e))
-
-  pub refused-out : lent .out ≡ meant file lent (interval cell) .lent .out
-  refused-out = refused-keeps-out (siteOf file) lent n ∙ sym (ap (λ (d : Done). d .lent .out) (refused-meant file lent (interval cell) n e))
+pub refused-counted : (file : List ℕ) (lent : Lent) (cell n : ℕ) → Refused n ≡ checkBy (siteOf file) (lowest (refusals file lent (interval cell)))
+    → C.Refused n ≡ countedOf (meant file lent (interval cell))
+refused-counted file lent cell n e =
+    let values : List ℕ = meant file lent (interval cell) .values in
+    counted-refused n values (refused-not-zero file lent (interval cell) n e)
+    ∙ sym (ap (λ (k : ℕ). countedBy k values) (refused-told file lent (interval cell) n e))
 
 -- ---- accepted
 

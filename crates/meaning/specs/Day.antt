@@ -102,7 +102,7 @@ decimalBy (suc k) n = cond (ltb n 10) [] (decimalBy k (n / 10)) ++ ((48 + n % 10
 unfoldable pub decimal : ℕ → List ℕ
 decimal n = decimalBy (suc n) n
 
--- what digits say, read from the highest on, behind a number that was read before
+-- the number that digits write, the highest first; `before` is what the digits in front of them wrote
 abbrev pub numberIn : ℕ → List ℕ → ℕ
 numberIn before [] = before
 numberIn before (c ∷ cs) = numberIn (before * 10 + (c - 48)) cs

@@ -14,38 +14,7 @@ use Rattle.meaning.specs.Calls.{bytesView, startNamed, runNamed, lightNamed, li
 use Rattle.meaning.specs.Day.{callOf, dayDone, linesFrom, dayLines, decimal}
 use Rattle.worked.specs.FourInLine.{called, fresh, closed, posted, lightFor, routed, boardB, boardC, boardD, boardN, lightA, postedA, Starred, Computed}
 
-pub starred : Starred
-unfolding every any all allBelow within lowest answer split fields complete listed
-    sweepsOf stateOf motionOf headOf laterOf stateCount siteOf headGood isState sweepCount isMotion motionsLaid layoutGood uses handover endsGood sweepsGood motionGood siteRefusals readSite
-    sortOf isTug isClosure isHolder free stands clear withEdition nextEdition
-    allowed walk startFree planEnd planPairs byWait byMotion word firstRow withRow rowsTo trace tracedRoute routeIn findRoute
-    encode lightOf isLightHead isWait isMove inLayout isLight decode begins runEnd intervalsFrom intervals
-    bytesView startNamed runNamed lightNamed lightValid routeRefusals lightRefusals closeRefusals withdrawRefusals intervalRefusals refusals grantedLight changed acceptedDone refusedDone meant
-    called fresh closed posted lightFor routed boardB boardC boardD boardN lightA postedA
-starred = record {
-  size = refl;
-  A = refl;
-  B = refl;
-  B-light = refl;
-  C = refl;
-  C-earliest-only = refl;
-  D = refl;
-  E = refl;
-  F = refl;
-  G = refl;
-  H = refl;
-  I = refl;
-  K-first = refl;
-  K-edition = refl;
-  K-again = refl;
-  L = refl;
-  M-held = refl;
-  M-free = refl;
-  N-count = refl;
-  N-area = refl;
-}
-
-pub computed : Computed
+pub all-cases : Starred × Computed
 unfolding every any all allBelow within lowest answer split fields complete listed
     sweepsOf stateOf motionOf headOf laterOf stateCount siteOf headGood isState sweepCount isMotion motionsLaid layoutGood uses handover endsGood sweepsGood motionGood siteRefusals readSite
     sortOf isTug isClosure isHolder free stands clear withEdition nextEdition
@@ -53,4 +22,28 @@ unfolding every any all allBelow within lowest answer split fields complete list
     encode lightOf isLightHead isWait isMove inLayout isLight decode begins runEnd intervalsFrom intervals
     bytesView startNamed runNamed lightNamed lightValid routeRefusals lightRefusals closeRefusals withdrawRefusals intervalRefusals refusals grantedLight changed acceptedDone refusedDone meant
     called fresh closed posted lightFor routed boardB boardC boardD boardN lightA postedA callOf dayDone linesFrom dayLines decimal
-computed = record { A-earliest-only = refl; J-late = refl; J-last = refl; O = refl; day = refl; day-text = refl; day-cut = refl; day-tag = refl; day-refused = refl; day-empty = refl }
+all-cases = (
+  record {
+    size = refl;
+    A = refl;
+    B = refl;
+    B-light = refl;
+    C = refl;
+    C-earliest-only = refl;
+    D = refl;
+    E = refl;
+    F = refl;
+    G = refl;
+    H = refl;
+    I = refl;
+    K-first = refl;
+    K-edition = refl;
+    K-again = refl;
+    L = refl;
+    M-held = refl;
+    M-free = refl;
+    N-count = refl;
+    N-area = refl;
+  },
+  record { A-earliest-only = refl; J-late = refl; J-last = refl; O = refl; day = refl; day-text = refl; day-cut = refl; day-tag = refl; day-refused = refl; day-empty = refl },
+)

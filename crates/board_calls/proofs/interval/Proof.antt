@@ -14,7 +14,8 @@ use Rattle.meaning.specs.Calls.{interval, lends, refusals}
 use Rattle.calls.specs.declared.Check.the-variants.{Passed}
 use Rattle.calls.specs.Checks.{checkBy}
 use Rattle.calls.proofs.Passes.{site-says, interval-cell, interval-row, interval-room}
-use Rattle.board_calls.proofs.IntervalLaws.{refused-counted, refused-out, interval-counted, interval-left, interval-few}
+use Rattle.answers.proofs.Laws.{refused-out}
+use Rattle.board_calls.proofs.IntervalLaws.{refused-counted, interval-counted, interval-left, interval-few}
 use Rattle.board_calls.proofs.interval.Statement.{statement}
 use Rattle.board_calls.proofs.interval.Tie as tie
 
@@ -76,7 +77,7 @@ returns-2 : tie.Need-returns-2
 returns-2 c =
     let a = c .before .before .before .before .before .before .before .args in
     let e = sym (c .before .n .given .1) ∙ c .before .before .before .check-interval .ensures (a .out .now) refl in
-    (refused-counted _ (lends _ _ []) _ _ e, refused-out _ (lends _ _ []) _ _ e)
+    (refused-counted _ (lends _ _ []) _ _ e, refused-out _ (lends _ _ []) (interval _) _ e)
 
 pub interval-spec : {M : Type 1} → statement M
 interval-spec =
