@@ -6,12 +6,16 @@ use native.Mathlib.Numerals.{add-one}
 use native.Mathlib.Omega.{arith}
 use mathlib.Core.Path.{_≡_, refl, sym, ap, _∙_}
 use mathlib.Core.Bool.{Bool, true, false, _&&_, _||_, not, false≢true, or-false}
-use lib.Bits.{bitAnd, bitOr, bitXor, and-step, or-step, xor-step, and-shr, or-shr, xor-shr, shifted-even, shifted-half}
+use lib.Bits.{bitAnd, bitOr, bitXor, and-le-l, and-le-r, or-add-and, and-step, or-step, xor-step, and-shr, or-shr, xor-shr, shifted-even, shifted-half}
 use lib.Pow.{shr-shr, shl-shr, field, mod-mod-pow}
 use lib.Dec.{ltb}
 use borrow.Author.Tests.{ltb-true, ltb-false}
 use Rattle.meaning.proofs.BasicsLaws.{and-right}
 use Rattle.rows.specs.Bits.{odd, bit, windowOf, runOf, fillOf}
+
+-- both words are 0
+pub or-zero : (a b : ℕ) → bitOr a b ≡ 0 → (a ≡ 0) × (b ≡ 0)
+or-zero a b e = (omega (arith, or-add-and a b, and-le-l a b, and-le-r a b), omega (arith, or-add-and a b, and-le-l a b, and-le-r a b))
 
 -- a digit is 0 or 1
 pub digit : {C : Type 0} (a : ℕ) → (a % 2 ≡ 0 → C) → (a % 2 ≡ 1 → C) → C

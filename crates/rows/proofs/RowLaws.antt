@@ -15,7 +15,7 @@ use borrow.Author.Tests.{ltb-true, ltb-false, eqb-true, eqb-false}
 use Rattle.meaning.proofs.BasicsLaws.{decide}
 use Rattle.rows.specs.Bits.{bit, windowOf}
 use Rattle.rows.specs.Rows.{at, has, Words, total, Grown}
-use Rattle.rows.proofs.BitLaws.{bit-past, window-low, window-high}
+use Rattle.rows.proofs.BitLaws.{or-zero, bit-past, window-low, window-high}
 
 pub zeros-at : (n i : ℕ) → getD (replicate {A = ℕ} n 0) i 0 ≡ 0
 zeros-at n i =
@@ -206,9 +206,6 @@ grown-turn l₀ l d k y h g = go (getD l k 0) (bitOr (getD l k 0) y) refl (or-ge
   where
     or-ge : (a b : ℕ) → a ≤ bitOr a b
     or-ge a b = omega (arith, or-add-and a b, and-le-r a b)
-
-    or-zero : (a b : ℕ) → bitOr a b ≡ 0 → (a ≡ 0) × (b ≡ 0)
-    or-zero a b e = (omega (arith, or-add-and a b, and-le-l a b, and-le-r a b), omega (arith, or-add-and a b, and-le-l a b, and-le-r a b))
 
     xor-same : (a b : ℕ) → bitXor a b ≡ 0 → a ≡ b
     xor-same a b e = omega (arith, xor-add-and a b, and-le-l a b, and-le-r a b)

@@ -7,7 +7,7 @@ use native.Mathlib.Omega.{arith}
 use mathlib.Core.Path.{_≡_, refl, sym, ap, ap₂, _∙_}
 use mathlib.Core.Bool.{Bool, false, _&&_, _||_, or-false}
 use mathlib.Core.List.{List}
-use lib.Bits.{bitAnd, bitOr, bitXor, and-le-l, and-le-r, or-add-and}
+use lib.Bits.{bitAnd, bitOr, bitXor, and-le-l, and-le-r}
 use lib.Dec.{ltb, eqb}
 use lib.ListN.{length, getD, set, replicate, length-set}
 use lib.Seq.{getD-set-same, getD-set-other}
@@ -15,7 +15,7 @@ use borrow.Author.Tests.{ltb-true, ltb-false, eqb-true, eqb-false, eq-eqb, ne-eq
 use Rattle.meaning.proofs.BasicsLaws.{decide}
 use Rattle.rows.specs.Bits.{odd, bit, windowOf, runOf, fillOf}
 use Rattle.rows.specs.Rows.{at, has, Words, ZeroFrom, Grown, Changed, Met, pushed, waited, filled, seeded}
-use Rattle.rows.proofs.BitLaws.{bit-and, bit-or, bit-shr, bit-rem, bit-scaled, bit-scaled-low, bit-past, fill-first, fill-next}
+use Rattle.rows.proofs.BitLaws.{or-zero, bit-and, bit-or, bit-shr, bit-rem, bit-scaled, bit-scaled-low, bit-past, fill-first, fill-next}
 use Rattle.rows.proofs.RowLaws.{zeros-at, zero-bit, mapRow, map-length, map-before, map-bit, map-turn, Putting, putting-turn, putting-end, window-at, other-row, this-row, has-is, grown-start, grown-turn}
 
 -- a loop that has changed row s word by word
@@ -94,12 +94,10 @@ zeros-none l a j h = absurd (omega arith)
 
 pub zeros-more : (l : List ℕ) (a i all : ℕ) → (all ≡ 0 → ZeroFrom l a i) → bitOr all (getD l (a + i) 0) ≡ 0 → ZeroFrom l a (i + 1)
 zeros-more l a i all h e j lt =
-    let x : ℕ = getD l (a + i) 0 in
+    let both = or-zero all (getD l (a + i) 0) e in
     decide (eqb j i)
-    (λ u. let same : j ≡ i = eqb-true j i u in rw same (omega (arith, e, or-add-and all x, and-le-l all x, and-le-r all x)))
-    (λ u.
-    let other : j ≡ i → ⊥ = eqb-false j i u in
-    h (omega (arith, e, or-add-and all x, and-le-l all x, and-le-r all x)) j (omega arith))
+    (λ u. let same : j ≡ i = eqb-true j i u in rw same (both .1))
+    (λ u. let other : j ≡ i → ⊥ = eqb-false j i u in h (both .0) j (omega arith))
 
 pub zeros-row : (l : List ℕ) (s i : ℕ) → 16 ≤ i → ZeroFrom l (s * 16) i → (t : ℕ) → t < 1024 → has l s t ≡ false
 zeros-row l s i most z t h = has-is l s t ∙ ap (λ (w : ℕ). bit w (t % 64)) (z (t / 64) (omega arith)) ∙ zero-bit (t % 64)

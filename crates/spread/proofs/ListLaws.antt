@@ -14,7 +14,7 @@ use Rattle.meaning.proofs.BasicsLaws.{decide}
 use Rattle.rows.specs.Rows.{has}
 use Rattle.moves.specs.Arrays.{fromAt, toAt, spanAt, Motions}
 use Rattle.moves.specs.Sets.{WaitClosed, MoveClosed, Closed, Inside, Step, Moved}
-use Rattle.moves.proofs.StepLaws.{or-zero}
+use Rattle.rows.proofs.BitLaws.{or-zero}
 use Rattle.spread.specs.Spread.{Chain, here, next, Listed, MovesClosed, Tried, Noted}
 
 -- ---- the lists, filled from the last motion down
