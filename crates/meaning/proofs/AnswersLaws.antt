@@ -10,7 +10,7 @@ use borrow.Author.Tests.{leb-true}
 use Rattle.meaning.specs.Basics.{all, Each}
 use Rattle.meaning.specs.Answers.{Refusal, lowest, RiseFrom, accepted, answer}
 use Rattle.meaning.specs.Site.{Site, siteRefusals}
-use Rattle.meaning.specs.Calls.{route, audit, post, close, withdraw, PublicCall, opening, interval, listed, Lent, routeRefusals, lightRefusals, closeRefusals, withdrawRefusals, intervalRefusals, laterRefusals, refusals}
+use Rattle.meaning.specs.Calls.{Call, route, audit, post, close, withdraw, PublicCall, opening, interval, listed, View, bytesView, Room, Lent, roomOf, routeRefusals, lightRefusals, closeRefusals, withdrawRefusals, callRefusals, intervalRefusals, laterRefusals, refusals}
 use Rattle.meaning.specs.Laws.{RefusalsRise}
 use Rattle.meaning.proofs.BasicsLaws.{decide, all-head, all-tail, each-map}
 
@@ -104,15 +104,19 @@ accepted-answer a n e = rw e
 
 -- ---- the numbers rise
 
+pub call-rise : (site : Site) (v : View) (room : Room) (c : Call) → RiseFrom 7 (callRefusals site v room c)
+unfolding routeRefusals lightRefusals closeRefusals withdrawRefusals
+call-rise site v room (route tug a goal) = (omega arith, (omega arith, (omega arith, (omega arith, (omega arith, (omega arith, tt))))))
+call-rise site v room (audit light) = (omega arith, (omega arith, (omega arith, (omega arith, (omega arith, (omega arith, (omega arith, (omega arith, tt))))))))
+call-rise site v room (post light) = (omega arith, (omega arith, (omega arith, (omega arith, (omega arith, (omega arith, (omega arith, (omega arith, tt))))))))
+call-rise site v room (close h cell first last) = (omega arith, (omega arith, (omega arith, (omega arith, (omega arith, tt)))))
+call-rise site v room (withdraw h) = (omega arith, (omega arith, (omega arith, tt)))
+
 pub later-rise : (site : Site) (l : Lent) (q : PublicCall) → RiseFrom 7 (laterRefusals site l q)
-unfolding routeRefusals lightRefusals closeRefusals withdrawRefusals intervalRefusals
+unfolding intervalRefusals
 later-rise site l opening = tt
 later-rise site l (interval cell) = (omega arith, (omega arith, tt))
-later-rise site l (listed (route tug a goal)) = (omega arith, (omega arith, (omega arith, (omega arith, (omega arith, (omega arith, tt))))))
-later-rise site l (listed (audit light)) = (omega arith, (omega arith, (omega arith, (omega arith, (omega arith, (omega arith, (omega arith, (omega arith, tt))))))))
-later-rise site l (listed (post light)) = (omega arith, (omega arith, (omega arith, (omega arith, (omega arith, (omega arith, (omega arith, (omega arith, tt))))))))
-later-rise site l (listed (close h cell first last)) = (omega arith, (omega arith, (omega arith, (omega arith, (omega arith, tt)))))
-later-rise site l (listed (withdraw h)) = (omega arith, (omega arith, (omega arith, tt)))
+later-rise site l (listed c) = call-rise site (bytesView site (l .board)) (roomOf l) c
 
 pub site-rise : (file : List ℕ) → RiseFrom 0 (siteRefusals file)
 unfolding siteRefusals

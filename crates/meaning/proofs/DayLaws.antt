@@ -2,25 +2,30 @@
 -- Assumes nothing.
 use Prim.Native.Nat.{ℕ, zero, suc, _+_, _-_, _*_, _/_, _%_, _≤_, _<_}
 use native.Mathlib.Omega.{arith}
-use mathlib.Core.Path.{_≡_, refl, sym, ap, _∙_}
-use mathlib.Core.Bool.{false, and-false}
+use mathlib.Core.Path.{_≡_, refl, sym, ap, ap₂, _∙_, subst}
+use mathlib.Core.Bool.{true, false, cond, and-false}
 use mathlib.Core.Option.{Option, none, some}
-use mathlib.Core.List.{List, [], _∷_, _++_}
+use mathlib.Core.List.{List, [], _∷_, _++_, append-assoc}
 use lib.Dec.{leb, ltb, eqb}
-use lib.ListN.{length, take, drop, replicate, length-drop}
+use lib.ListN.{length, getD, take, drop, replicate, length-drop, length-append, length-replicate}
 use lib.Seq.{take-all, length-take-le, take-nil, drop-drop, take-append-seam}
-use borrow.Author.Tests.{le-leb, lt-leb, leb-true, leb-false, ltb-true, ltb-false, ne-eqb}
+use borrow.Author.Tests.{le-leb, lt-leb, leb-true, leb-false, ltb-true, ltb-false, lt-ltb, eqb-true, ne-eqb}
 use Rattle.meaning.specs.Limits.{routeSize, dayArea, dayWords}
+use Rattle.meaning.specs.Basics.{Bytes, u16At}
+use Rattle.meaning.specs.Answers.{accepted}
 use Rattle.meaning.specs.Fields.{Field, Fields, end, cut, next, fields}
-use Rattle.meaning.specs.Site.{siteOf}
+use Rattle.meaning.specs.Site.{Site, siteOf, readSite}
+use Rattle.meaning.specs.Board.{boardLength, edition}
 use Rattle.meaning.specs.Plan.{Node}
 use Rattle.meaning.specs.Light.{encode}
-use Rattle.meaning.specs.Calls.{Call, route, listed, bytesView, Lent, lends, grantedLight, Done, acceptedDone}
-use Rattle.meaning.specs.Day.{Day, isField, callOf, dayDone, dayAfter, lineThen, linesFrom, decimalBy, decimal, numberIn, wanted, piece, lineNext, dayBy, dayNext, linesOn}
-use Rattle.meaning.specs.Laws.{DayRight}
-use Rattle.meaning.proofs.BasicsLaws.{decide}
-use Rattle.meaning.proofs.CallLaws.{meant-accepted}
-use Rattle.meaning.proofs.FieldsLaws.{fields-end, fields-short, fields-cut, fields-next}
+use Rattle.meaning.specs.Calls.{Call, route, audit, post, close, withdraw, opening, listed, bytesView, Lent, lends, onBoard, grantedLight, Done, acceptedDone, refusedDone, meant}
+use Rattle.meaning.specs.Day.{Line, Day, isField, callOf, dayDone, arrivalOf, lastLight, lineOf, dayAfter, lineThen, linesFrom, dayBoard, opened, dayLines, textOf, texts, dayText, decimalBy, decimal, numberIn, wanted, piece, lineNext, dayBy, dayNext, linesOn}
+use Rattle.meaning.specs.Laws.{ScriptField, Printed, ended, turned, DayRight}
+use Rattle.meaning.proofs.BasicsLaws.{decide, and-left, and-right, u16-back}
+use Rattle.meaning.proofs.CallLaws.{meant-number, meant-by, meant-accepted, done-board}
+use Rattle.meaning.proofs.CheckLaws.{size-refused}
+use Rattle.meaning.proofs.SiteLaws.{read-site}
+use Rattle.meaning.proofs.FieldsLaws.{fields-end, fields-short, fields-cut, fields-next, field-is, list-of, u16-below, put16-at}
 
 -- no call has a value longer than a route's
 other-size : (f : Field) (tag size : ℕ) → (length (f .value) ≡ size → ⊥) → isField f tag size ≡ false
@@ -137,5 +142,171 @@ digits : (n : ℕ) → numberIn 0 (decimal n) ≡ n
 unfolding decimal
 digits n = digits-by (suc n) n (omega arith)
 
+-- the first digit of a number that is not 0 is not 0
+getD-front : (xs ys : List ℕ) → 1 ≤ length xs → getD (xs ++ ys) 0 0 ≡ getD xs 0 0
+getD-front [] ys h = absurd (omega arith)
+getD-front (x ∷ xs) ys h = refl
+
+some-digit : (k n : ℕ) → n < k → 1 ≤ length (decimalBy k n)
+some-digit zero n h = absurd (omega arith)
+some-digit (suc k) n h =
+    let size : _ = length-append (cond (ltb n 10) [] (decimalBy k (n / 10))) ((48 + n % 10) ∷ []) in
+    omega arith
+
+no-zero-by : (k n : ℕ) → n < k → 1 ≤ n → getD (decimalBy k n) 0 0 ≡ 48 → ⊥
+no-zero-by zero n h pos e = omega arith
+no-zero-by (suc k) n h pos e =
+    decide (ltb n 10)
+    (λ q. let small = ltb-true n 10 q in let here : 48 + n % 10 ≡ 48 = rw q at e in omega arith)
+    (λ q. let large = ltb-false n 10 q in
+    let there : getD (decimalBy k (n / 10) ++ ((48 + n % 10) ∷ [])) 0 0 ≡ 48 = rw q at e in
+    no-zero-by k (n / 10) (omega arith) (omega arith)
+    (sym (getD-front (decimalBy k (n / 10)) ((48 + n % 10) ∷ []) (some-digit k (n / 10) (omega arith))) ∙ there))
+
+no-leading-zero : (n : ℕ) → 1 ≤ n → getD (decimal n) 0 0 ≡ 48 → ⊥
+unfolding decimal
+no-leading-zero n pos e = no-zero-by (suc n) n (omega arith) pos e
+
+one-digit : (n : ℕ) → n < 10 → decimal n ≡ (48 + n) ∷ []
+unfolding decimal
+one-digit n h =
+    let same : 48 + n % 10 ≡ 48 + n = omega arith in
+    rw (lt-ltb n 10 h, same) refl
+
+-- ---- the field of a call
+
+is-field : (f : Field) (tag size : ℕ) → isField f tag size ≡ true → (f .tag ≡ tag) × (length (f .value) ≡ size)
+is-field f tag size h = (
+  eqb-true (f .tag) tag (and-left (eqb (f .tag) tag) (eqb (length (f .value)) size) h),
+  eqb-true (length (f .value)) size (and-right (eqb (f .tag) tag) (eqb (length (f .value)) size) h),
+)
+
+the-call : {c k : Call} → some k ≡ some c → k ≡ c
+the-call e = cc
+
+calls : (light : List ℕ) (f : Field) (c : Call) → Bytes (f .value) → callOf light f ≡ some c → ScriptField light c f
+unfolding callOf
+calls light f c bytes e =
+    decide (isField f 32 6)
+    (λ h. by (close (getD v 0 0) (getD v 1 0) (u16At v 2) (u16At v 4)) (simp h at e)
+    (let (t, n) = is-field f 32 6 h in
+    (u16-below v bytes 2, u16-below v bytes 4, sym (field-is f 32 _ t (list-of v 6 n ∙ sym (ap₂ (λ (x y : List ℕ). getD v 0 0 ∷ getD v 1 0 ∷ (x ++ y)) (put16-at v bytes 2) (put16-at v bytes 4)))))))
+    (λ h. decide (isField f 33 1)
+    (λ k. by (withdraw (getD v 0 0)) (simp (h, k) at e) (let (t, n) = is-field f 33 1 k in sym (field-is f 33 _ t (list-of v 1 n))))
+    (λ k. decide (isField f 34 7)
+    (λ m. by (route (getD v 0 0) (record { state = u16At v 1; tick = u16At v 3 }) (u16At v 5)) (simp (h, k, m) at e)
+    (let (t, n) = is-field f 34 7 m in
+    (u16-below v bytes 1, u16-below v bytes 3, u16-below v bytes 5, sym (field-is f 34 _ t (list-of v 7 n ∙ sym (ap₂ (λ (x y : List ℕ). getD v 0 0 ∷ (x ++ y)) (put16-at v bytes 1) (ap₂ (λ (x y : List ℕ). x ++ y) (put16-at v bytes 3) (put16-at v bytes 5))))))))
+    (λ m. decide (isField f 35 0)
+    (λ p. by (post light) (simp (h, k, m, p) at e) (let (t, n) = is-field f 35 0 p in (refl, sym (field-is f 35 _ t (list-of v 0 n)))))
+    (λ p. absurd (let z : none ≡ some c = simp (h, k, m, p) at e in let y : _≡_ {A = ℕ} 0 1 = cc in omega arith)))))
+  where
+    v : List ℕ
+    v = f .value
+
+    by : (k : Call) → some k ≡ some c → ScriptField light k f → ScriptField light c f
+    by k same = subst (λ (x : Call). ScriptField light x f) (the-call same)
+
+all-calls : (light : List ℕ) (f : Field) (c : Call) → ScriptField light c f → callOf light f ≡ some c
+unfolding callOf
+all-calls light f (close h cell first last) (lo, hi, e) = rw (e, u16-back first lo, u16-back last hi) refl
+all-calls light f (withdraw h) e = rw e refl
+all-calls light f (route tug a goal) (s, t, g, e) = rw (e, u16-back (a .state) s, u16-back (a .tick) t, u16-back goal g) refl
+all-calls light f (post granted) (same, e) = rw (e, same) refl
+
+-- ---- a call that grants nothing
+
+nothing-shown : (file : List ℕ) (d : Day) (c : Call) (n : ℕ) → dayDone file d c .number ≡ n
+    → ((tug : ℕ) (a : Node) (goal : ℕ) → c ≡ route tug a goal → dayDone file d c .number ≡ 0 → ⊥) → dayDone file d c .values ≡ []
+unfolding dayDone acceptedDone refusedDone
+nothing-shown file d c n e none-granted = by-number n e
+  where
+    l : Lent
+    l = lends (d .board) (replicate dayArea 0) (replicate dayWords 0)
+
+    by-call : (k : Call) → c ≡ k → dayDone file d c .number ≡ 0 → acceptedDone (siteOf file) l (listed k) .values ≡ []
+    by-call (route tug a goal) same z = absurd (none-granted tug a goal same z)
+    by-call (audit light) same z = refl
+    by-call (post light) same z = refl
+    by-call (close h cell first last) same z = refl
+    by-call (withdraw h) same z = refl
+
+    by-number : (k : ℕ) → dayDone file d c .number ≡ k → dayDone file d c .values ≡ []
+    by-number zero z = ap (λ (x : Done). x .values) (meant-accepted file l (listed c) z) ∙ by-call c refl z
+    by-number (suc k) z = ap (λ (x : Done). x .values) (meant-by file l (listed c) (suc k) (sym (meant-number file l (listed c)) ∙ z))
+
+keeps-light : (file : List ℕ) (d : Day) (c : Call)
+    → ((tug : ℕ) (a : Node) (goal : ℕ) → c ≡ route tug a goal → dayDone file d c .number ≡ 0 → ⊥)
+    → dayAfter d (dayDone file d c) .light ≡ d .light
+keeps-light file d c none-granted =
+    ap (λ (vs : List ℕ). lastLight (d .light) (dayDone file d c .lent .out) vs) (nothing-shown file d c (dayDone file d c .number) refl none-granted)
+
+refused-line : (file : List ℕ) (d : Day) (c : Call) (n : ℕ) → dayDone file d c .number ≡ suc n
+    → lineOf (dayDone file d c) ≡ record { number = suc n; edition = edition (d .board); arrival = 0 }
+unfolding dayDone
+refused-line file d c n e =
+    let l : Lent = lends (d .board) (replicate dayArea 0) (replicate dayWords 0) in
+    let is : _ = meant-by file l (listed c) (suc n) (sym (meant-number file l (listed c)) ∙ e) in
+    let values : dayDone file d c .values ≡ [] = nothing-shown file d c (suc n) e (λ tug a goal same z. absurd (let y : suc n ≡ 0 = sym e ∙ z in omega arith)) in
+    let board : dayDone file d c .lent .board ≡ d .board = ap (λ (x : Done). x .lent .board) is ∙ done-board (siteOf file) l c (suc n) in
+    λ i. record { number = e i; edition = edition (board i); arrival = arrivalOf (values i) }
+
+-- ---- the whole day
+
+texts-append : (xs ys : List Line) → texts (xs ++ ys) ≡ texts xs ++ texts ys
+texts-append [] ys = refl
+texts-append (x ∷ xs) ys = ap (λ (t : List ℕ). textOf x ++ t) (texts-append xs ys) ∙ sym (append-assoc (textOf x) (texts xs) (texts ys))
+
+printed : (file : List ℕ) {rest text : List ℕ} {o : Option Day} → Printed file rest o text → text ≡ texts (linesOn file rest o)
+printed file (ended {rest = rest}) = refl
+printed file (turned {rest = rest} {text = text} {d = d} more) =
+    ap (λ (t : List ℕ). texts (lineNext file (fields (piece rest)) d) ++ t) (printed file more)
+    ∙ sym (texts-append (lineNext file (fields (piece rest)) d) _)
+    ∙ ap texts (sym (turn-by-turn file d rest))
+
+whole : (file script text : List ℕ) → meant file (onBoard (dayBoard file)) opening .number ≡ 0
+    → Printed file script (some (record { board = meant file (onBoard (dayBoard file)) opening .lent .board; light = [] })) text
+    → text ≡ dayText file script
+unfolding dayLines
+whole file script text z p =
+    printed file p ∙ ap (λ (n : ℕ). texts (opened file script (meant file (onBoard (dayBoard file)) opening) n)) (sym z)
+
+refused : (file script : List ℕ) (n : ℕ) → meant file (onBoard (dayBoard file)) opening .number ≡ suc n
+    → dayText file script ≡ textOf (record { number = suc n; edition = 0; arrival = 0 }) ++ []
+unfolding dayLines
+refused file script n e = ap (λ (k : ℕ). texts (opened file script (meant file (onBoard (dayBoard file)) opening) k)) e
+
+part-length : (n m : ℕ) → m < n → length (take n (replicate {A = ℕ} m 0)) ≡ m
+part-length n m h =
+    let size : length (replicate {A = ℕ} m 0) ≡ m = length-replicate {A = ℕ} m 0 in
+    ap length (take-all n (replicate m 0) (omega arith)) ∙ size
+
+too-large : (file script : List ℕ) (site : Site) → readSite file ≡ accepted site → 65536 < boardLength site
+    → dayText file script ≡ textOf (record { number = 7; edition = 0; arrival = 0 }) ++ []
+too-large file script site read large =
+    let (clear, same) = read-site file site read in
+    let more : dayArea < boardLength (siteOf file) = subst (λ (s : Site). dayArea < boardLength s) (sym same) large in
+    let part : length (dayBoard file) ≡ dayArea = part-length (boardLength (siteOf file)) dayArea more in
+    refused file script 6 (meant-number file (onBoard (dayBoard file)) opening ∙ size-refused file (onBoard (dayBoard file)) clear (λ e. omega arith))
+
+areas : (file : List ℕ) (d : Day) (c : Call) → dayDone file d c ≡ meant file (lends (d .board) (replicate 65536 0) (replicate 16384 0)) (listed c)
+unfolding dayDone
+areas file d c = refl
+
 pub day-right : DayRight
-day-right = record { turn-by-turn = λ file script d. turn-by-turn file d script; last-light = last-light; digits = digits }
+day-right = record {
+  turn-by-turn = λ file script d. turn-by-turn file d script;
+  refused = refused;
+  too-large = too-large;
+  whole = whole;
+  calls = calls;
+  all-calls = all-calls;
+  areas = areas;
+  board-area = λ file. refl;
+  last-light = last-light;
+  keeps-light = keeps-light;
+  refused-line = refused-line;
+  digits = digits;
+  no-leading-zero = no-leading-zero;
+  one-digit = one-digit;
+}

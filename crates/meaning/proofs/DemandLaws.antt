@@ -3,39 +3,43 @@
 use Prim.Native.Nat.{ℕ, zero, suc, _+_, _≤_, _<_}
 use native.Mathlib.Omega.{arith}
 use mathlib.Core.Path.{_≡_, refl, sym, ap, _∙_, subst}
-use mathlib.Core.Bool.{Bool, true, false, cond, not, false≢true}
+use mathlib.Core.Bool.{Bool, true, false, cond, not}
 use mathlib.Core.Option.{Option, some}
 use mathlib.Core.List.{List, [], _∷_, _++_}
 use lib.Dec.{leb, eqb}
-use borrow.Author.Tests.{leb-true, eqb-true, eqb-false, eq-eqb, ne-eqb, not-false}
+use borrow.Author.Tests.{leb-true, eqb-false, eq-eqb, ne-eqb, not-false}
 use lib.ListN.{length, take, drop, replicate, length-replicate}
 use lib.Seq.{take-append-seam}
 use Rattle.meaning.specs.Limits.{lastEdition}
 use Rattle.meaning.specs.Basics.{all, Bytes}
-use Rattle.meaning.specs.Answers.{Refusal, _if_, lowest, Clears}
-use Rattle.meaning.specs.Site.{Site, siteOf, siteRefusals}
-use Rattle.meaning.specs.Board.{Free, free, boardLength, byteAt, edition, Pair, runTo, allFree, mark, clear, nextEdition}
-use Rattle.meaning.specs.Plan.{Node, planEnd, planPairs}
+use Rattle.meaning.specs.Answers.{Refusal, _if_, lowest, Clears, accepted}
+use Rattle.meaning.specs.Site.{Site, siteOf, siteRefusals, readSite}
+use Rattle.meaning.specs.Board.{free, boardLength, byteAt, edition, Pair, runTo, allFree, mark, clear, nextEdition}
+use Rattle.meaning.specs.Plan.{Node, planPairs}
 use Rattle.meaning.specs.Reach.{Route}
 use Rattle.meaning.specs.Light.{Light, startOf, goalOf, encode, lightOf, decode}
 use Rattle.meaning.specs.Intervals.{Interval, intervals, numbersOf}
-use Rattle.meaning.specs.Calls.{route, audit, post, close, withdraw, PublicCall, opening, interval, listed, bytesView, isAt, lightValid, lightRoom, wordsNeeded, numbersRoom, lightRefusals, closeRefusals, withdrawRefusals, intervalRefusals, Lent, withWordsZero, refusals, routeFound, grantedLight, changed, Done, acceptedDone, meant}
+use Rattle.meaning.specs.Calls.{route, audit, post, close, withdraw, PublicCall, opening, interval, listed, bytesView, lightValid, lightRoom, wordsNeeded, numbersRoom, lightRefusals, closeRefusals, withdrawRefusals, intervalRefusals, Lent, roomOf, withWordsZero, refusals, routeFound, grantedLight, changed, Done, acceptedDone, meant}
 use Rattle.meaning.specs.PlainBoard.{hasPair}
 use Rattle.meaning.specs.ValidPlans.{Valid, Holds}
 use Rattle.meaning.specs.SafeIntervals.{AllSafeIntervals}
 use Rattle.meaning.specs.WellFormed.{WellFormed}
-use Rattle.meaning.specs.Demands.{Desk, Exact, Written, Rewritten, lightOut, OnlyBoard, Demand1, Demand2}
-use Rattle.meaning.proofs.BasicsLaws.{decide, every-at, every-nil, every-cons, options}
+use Rattle.meaning.specs.Refusals.{bytesSight, CloseAccepted, LightAccepted, WithdrawAccepted, RouteAccepted}
+use Rattle.meaning.specs.Demands.{Desk, Exact, Written, Rewritten, lightOut, OnlyBoard, RouteRight, Demand1, Demand2}
+use Rattle.meaning.proofs.BasicsLaws.{decide, every-at, every-nil, every-cons}
 use Rattle.meaning.proofs.AnswersLaws.{lowest-hit, lowest-miss, lowest-clear, lowest-append, lowest-most}
 use Rattle.meaning.proofs.FieldsLaws.{byte-at}
 use Rattle.meaning.proofs.LightLaws.{decode-some, light-decode}
-use Rattle.meaning.proofs.PlanLaws.{plan-valid, valid-plan, pairs-held, held-pairs, has-run-to, in-run-to}
+use Rattle.meaning.proofs.PlanLaws.{pairs-held, held-pairs, has-run-to, in-run-to}
 use Rattle.meaning.proofs.IntervalLaws.{intervals-right}
-use Rattle.meaning.proofs.SiteLaws.{read-well}
+use Rattle.meaning.proofs.SiteLaws.{read-site, site-read, read-well}
 use Rattle.meaning.proofs.TraceLaws.{search-right}
 use Rattle.meaning.proofs.BoardLaws.{edition-new, length-edition, byte-edition, InSite, in-site, length-mark, byte-mark, length-clear, byte-clear, edition-small}
-use Rattle.meaning.proofs.CallLaws.{written, meant-number, meant-by, meant-accepted, refused-same, refused-18, accepted-parts, board-sized, PassesTo14, refused-to-14, accepted-to-14, granted-found, parts-read}
+use Rattle.meaning.proofs.CallLaws.{written, meant-number, meant-by, meant-accepted, refused-same, refused-18, accepted-parts, board-sized, PassesTo14, refused-to-14, accepted-to-14, granted-found, parts, parts-read}
+use Rattle.meaning.proofs.CheckLaws.{size-passed}
+use Rattle.meaning.proofs.RouteLaws.{route-right}
 use Rattle.meaning.proofs.ListLaws.{light-free}
+use Rattle.meaning.proofs.RefusalLaws.{valid-light, light-valid, Sees, bytes-seen, close-accepted, light-accepted, withdraw-accepted, route-accepted}
 
 -- ---- refused calls
 
@@ -114,6 +118,15 @@ module _ (file : List ℕ) (l : Lent) where
   size : (q : PublicCall) → meant file l q .number ≡ 0 → length (l .board) ≡ boardLength site
   size q z = board-sized file l (accepted-parts file l q z .of-board)
 
+  well : (q : PublicCall) → meant file l q .number ≡ 0 → WellFormed site
+  well q z = read-well file site (parts-read file l q (accepted-parts file l q z))
+
+  sees : (q : PublicCall) → meant file l q .number ≡ 0 → Sees (bytesView site (l .board)) (bytesSight site (l .board))
+  sees q z = bytes-seen site (l .board) (size q z)
+
+  small : Bytes (l .board) → edition (l .board) ≤ 4294967295
+  small bytes = edition-small (l .board) (byte-at (l .board) bytes)
+
   opened : meant file l opening .number ≡ 0
       → OnlyBoard l (meant file l opening) × (meant file l opening .lent .board ≡ replicate (boardLength site) 0)
   unfolding acceptedDone
@@ -124,6 +137,7 @@ module _ (file : List ℕ) (l : Lent) where
   closed : (h cell first last : ℕ) → Bytes (l .board) → meant file l (listed (close h cell first last)) .number ≡ 0
       → OnlyBoard l (meant file l (listed (close h cell first last)))
       × Rewritten site (l .board) (meant file l (listed (close h cell first last)) .lent .board) (λ c t. (c ≡ cell) × (first ≤ t) × (t ≤ last)) h
+      × CloseAccepted site (bytesSight site (l .board)) h cell first last
   unfolding acceptedDone changed closeRefusals bytesView
   closed h cell first last bytes z =
       let q : PublicCall = listed (close h cell first last) in
@@ -134,11 +148,13 @@ module _ (file : List ℕ) (l : Lent) where
         marked site (l .board) h (runTo cell first last) (λ c t. (c ≡ cell) × (first ≤ t) × (t ≤ last)) bytes h15 (size q z) (not-false _ h17)
             (λ c t p. has-run-to cell first last c t (p .0) (p .1) (p .2))
             (λ c t e. in-run-to cell first last c t e),
+        close-accepted site (well q z) (bytesView site (l .board)) (bytesSight site (l .board)) (sees q z) (small bytes) h cell first last (accepted-parts file l q z .later),
       )
 
   withdrawn : (h : ℕ) → Bytes (l .board) → meant file l (listed (withdraw h)) .number ≡ 0
       → OnlyBoard l (meant file l (listed (withdraw h)))
       × Rewritten site (l .board) (meant file l (listed (withdraw h)) .lent .board) (λ c t. byteAt site (l .board) c t ≡ h) 0
+      × WithdrawAccepted site (bytesSight site (l .board)) h
   unfolding acceptedDone changed withdrawRefusals bytesView
   withdrawn h bytes z =
       let q : PublicCall = listed (withdraw h) in
@@ -153,12 +169,14 @@ module _ (file : List ℕ) (l : Lent) where
             (λ c t hc ht p.
             byte-clear site h (l .board) c t (size q z)
             ∙ ap (λ (b : Bool). cond b 0 (byteAt site (l .board) c t)) (ne-eqb (byteAt site (l .board) c t) h p)),
+        withdraw-accepted site (well q z) (bytesView site (l .board)) (bytesSight site (l .board)) (sees q z) (small bytes) h (accepted-parts file l q z .later),
       )
 
   posted : (light : List ℕ) → Bytes (l .board) → meant file l (listed (post light)) .number ≡ 0
       → (x : Light) × (decode light ≡ some x)
       × OnlyBoard l (meant file l (listed (post light)))
       × Rewritten site (l .board) (meant file l (listed (post light)) .lent .board) (Holds site (startOf x) (x .steps)) (x .tug)
+      × LightAccepted site (bytesSight site (l .board)) x
   unfolding acceptedDone changed lightRefusals bytesView
   posted light bytes z =
       let q : PublicCall = listed (post light) in
@@ -173,6 +191,7 @@ module _ (file : List ℕ) (l : Lent) where
             (light-free site (free site (l .board)) x (not-false _ h17))
             (λ c t p. held-pairs site (startOf x) (x .steps) c t p)
             (λ c t e. pairs-held site (startOf x) (x .steps) c t e),
+        light-accepted site (well q z) (bytesView site (l .board)) (bytesSight site (l .board)) (sees q z) (small bytes) light (accepted-parts file l q z .later),
       )
 
   -- audit has post's number, and leaves all as before
@@ -216,16 +235,17 @@ module _ (file : List ℕ) (l : Lent) where
       → (meant file l (listed (route tug a goal)) .lent .board ≡ l .board)
       × Written (lightOut (meant file l (listed (route tug a goal)))) (l .out) (meant file l (listed (route tug a goal)) .lent .out)
       × Written (replicate (wordsNeeded site) 0) (l .words) (meant file l (listed (route tug a goal)) .lent .words)
+      × RouteAccepted site (bytesSight site (l .board)) (roomOf l) tug a goal
   unfolding acceptedDone grantedLight bytesView
   granted tug a goal z =
       let q : PublicCall = listed (route tug a goal) in
       let is : meant file l q ≡ acceptedDone site l q = meant-accepted file l q z in
       let ready : PassesTo14 site l tug a goal = accepted-to-14 file l tug a goal z in
-      let well : WellFormed site = read-well file site (parts-read file l q (accepted-parts file l q z)) in
+      let ok : WellFormed site = well q z in
       let (r, e) = granted-found file l tug a goal z in
       let x : Light = grantedLight site (bytesView site (l .board)) tug a goal in
       let steps : x .steps ≡ r .steps = ap (λ (o : Option Route). routeFound o .steps) e in
-      let fits : length (encode x) ≤ lightRoom site = search-right .fits site well (free site (l .board)) a goal r e x steps in
+      let fits : length (encode x) ≤ lightRoom site = search-right .fits site ok (free site (l .board)) a goal r e x steps in
       let room : lightRoom site ≤ length (l .out) = ready .light-room in
       let front : take (length (encode x)) (encode x ++ drop (length (encode x)) (l .out)) ≡ encode x =
       take-append-seam (encode x) (drop (length (encode x)) (l .out)) in
@@ -233,7 +253,14 @@ module _ (file : List ℕ) (l : Lent) where
         refl,
         subst (λ (s : List ℕ). Written s (l .out) (encode x ++ drop (length (encode x)) (l .out))) (sym front) (written (encode x) (l .out) (omega arith)),
         words-written tug a goal ready,
+        route-accepted site ok (bytesView site (l .board)) (bytesSight site (l .board)) (sees q z) (roomOf l) tug a goal (accepted-parts file l q z .later),
       )
+
+-- open is accepted on an accepted site and a board of its length
+opens : (file : List ℕ) (site : Site) → readSite file ≡ accepted site → (l : Lent) → length (l .board) ≡ boardLength site → meant file l opening .number ≡ 0
+opens file site read l same =
+    let (clear, is) = read-site file site read in
+    meant-number file l opening ∙ size-passed file l clear (same ∙ ap boardLength (sym is))
 
 -- ---- demand 1
 
@@ -244,6 +271,7 @@ exact-demand1 desk exact = record {
   refused-alone = λ file l q d may. rw (exact file l q d may) (λ not-0 not-18. refused-alone file l q not-0 not-18);
   no-plan = λ file l q d may. rw (exact file l q d may) (λ z. no-plan file l q z);
   opened = λ file l d may. rw (exact file l opening d may) (λ z. opened file l z);
+  opens = λ file site read l same d may. ap (λ (x : Done). x .number) (exact file l opening d may) ∙ opens file site read l same;
   closed = λ file l h cell first last d bytes may. rw (exact file l (listed (close h cell first last)) d may) (λ z. closed file l h cell first last bytes z);
   posted = λ file l light d bytes may. rw (exact file l (listed (post light)) d may) (λ z. posted file l light bytes z);
   withdrawn = λ file l h d bytes may. rw (exact file l (listed (withdraw h)) d may) (λ z. withdrawn file l h bytes z);
@@ -252,26 +280,6 @@ exact-demand1 desk exact = record {
 }
 
 -- ---- demand 2
-
--- the test of a light decides whether its plan is valid and ends at its goal and arrival
-module _ (site : Site) (f : Free) (x : Light) where
-  valid-light : Valid site f (startOf x) (x .steps) (goalOf x) → lightValid site f x ≡ true
-  unfolding lightValid
-  valid-light v =
-      ap (isAt (x .goal) (x .arrival)) (valid-plan site f (startOf x) (x .steps) (goalOf x) v)
-      ∙ every-cons _ _ (eq-eqb (x .goal) (x .goal) refl) (every-cons _ _ (eq-eqb (x .arrival) (x .arrival) refl) every-nil)
-
-  light-valid : lightValid site f x ≡ true → Valid site f (startOf x) (x .steps) (goalOf x)
-  unfolding lightValid
-  light-valid h =
-      options (planEnd site f (startOf x) (x .steps))
-      (λ e. absurd (false≢true (sym (ap (isAt (x .goal) (x .arrival)) e) ∙ h)))
-      (λ b e.
-      let at-goal : isAt (x .goal) (x .arrival) (some b) ≡ true = sym (ap (isAt (x .goal) (x .arrival)) e) ∙ h in
-      let same-state : b .state ≡ x .goal = eqb-true _ _ (every-at _ at-goal 0) in
-      let same-tick : b .tick ≡ x .arrival = eqb-true _ _ (every-at _ at-goal 1) in
-      let same : b ≡ goalOf x = (λ i. record { state = same-state i; tick = same-tick i }) in
-      plan-valid site f (startOf x) (x .steps) (goalOf x) (e ∙ ap (λ (n : Node). some n) same))
 
 module _ (file : List ℕ) (l : Lent) (light : List ℕ) (clears : Clears 16 (refusals file l (listed (audit light)))) where
   -- then 17 alone decides
@@ -330,9 +338,20 @@ reported file l cell z =
       written (numbersOf (intervals p (siteOf file .horizon))) (l .out) (omega arith),
     )
 
+-- routes, over boards of any content
+any-route : (file : List ℕ) (l : Lent) (tug : ℕ) (a : Node) (goal : ℕ) → Bytes (l .board) → Clears 14 (refusals file l (listed (route tug a goal)))
+    → RouteRight (siteOf file) (l .board) tug a goal (meant file l (listed (route tug a goal)))
+unfolding siteRefusals
+any-route file l tug a goal bytes clears =
+    let (h1, (h2, (h3, (h4, (h5, (h6, rest)))))) = parts (λ (r : Refusal). r .number ≤ 14 → r .applies ≡ false) file l (listed (route tug a goal)) clears .of-site in
+    let clear : lowest (siteRefusals file) ≡ 0 =
+    lowest-clear (siteRefusals file) (h1 (omega arith), (h2 (omega arith), (h3 (omega arith), (h4 (omega arith), (h5 (omega arith), (h6 (omega arith), tt)))))) in
+    route-right file (read-well file (siteOf file) (site-read file clear)) l (edition-small (l .board) (byte-at (l .board) bytes)) tug a goal clears
+
 pub exact-demand2 : (desk : Desk) → Exact desk → Demand2 desk
 exact-demand2 desk exact = record {
   intervals = λ file l cell d may. rw (exact file l (interval cell) d may) (λ z. reported file l cell z);
   audit-passes = λ file l light x d may clears decoded v. ap (λ (e : Done). e .number) (exact file l (listed (audit light)) d may) ∙ passes-audit file l light clears x decoded v;
   audit-fails = λ file l light x d may clears decoded v. ap (λ (e : Done). e .number) (exact file l (listed (audit light)) d may) ∙ fails-audit file l light clears x decoded v;
+  routes = λ file l tug a goal d bytes may clears. rw (exact file l (listed (route tug a goal)) d may) (any-route file l tug a goal bytes clears);
 }

@@ -18,6 +18,8 @@ pub mod CheckLaws
 pub mod RouteLaws
 pub mod ListLaws
 pub mod DemandLaws
+pub mod RefusalLaws
+pub mod SiteRefusalLaws
 pub mod AreaLaws
 pub mod DayLaws
 pub mod Theorems

@@ -168,6 +168,7 @@ module _ (desk : Desk) (exact : Exact desk) (file : List ℕ) (ok : Each Passed 
       record {
         same-board = board-bytes (siteOf file) (boardAfter board xs) last (every-call .agree);
         same-answers = every-call .answers;
+        edition-fits = every-call .agree .fits;
         no-two = no-two-in (siteOf file) (last .entries) (every-call .agree .clean);
         known = known-in (siteOf file) (last .entries) (every-call .agree .clean);
         routes = every-call .routes;

@@ -13,6 +13,7 @@ use Rattle.meaning.specs.Limits.{headTag, stateTag, motionTag, headSize,
 use Rattle.meaning.specs.Basics.{all, within, Each, Bytes, u16At}
 use Rattle.meaning.specs.Fields.{Field, noField}
 use Rattle.meaning.specs.Site.{State, Sweep, Motion, Site, sweepsOf, stateOf, motionOf, headGood, isState, sweepCount, isMotion, motionsLaid, layoutGood}
+use Rattle.meaning.specs.Refusals.{HeadField}
 use Rattle.meaning.specs.WellFormed.{WellFormed, stateField, sweepBytes, motionField, headField}
 use Rattle.meaning.proofs.BasicsLaws.{and-left, and-right, all-each, each-all, within-range, range-within, u16-back, u16-bytes}
 use Rattle.meaning.proofs.FieldsLaws.{field-is, list-of, byte-at}
@@ -204,14 +205,7 @@ laid-motions ms h k = simp (each-all IsMotion isMotion (λ f e. e) ms h, le-leb 
 
 -- ---- the head
 
-pub record GoodHead (f : Field) : Type 0 where
-  pub tag-right : f .tag ≡ headTag
-  pub size-right : length (f .value) ≡ headSize
-  pub horizon-range : (1 ≤ u16At (f .value) 0) × (u16At (f .value) 0 ≤ horizonLimit)
-  pub cells-range : (1 ≤ getD (f .value) 2 0) × (getD (f .value) 2 0 ≤ cellLimit)
-  pub states-range : (1 ≤ u16At (f .value) 3) × (u16At (f .value) 3 ≤ stateLimit)
-
-pub head-good : (f : Field) → headGood f ≡ true → GoodHead f
+pub head-good : (f : Field) → headGood f ≡ true → HeadField f
 unfolding headGood
 head-good f h =
     let v = f .value in
@@ -229,7 +223,7 @@ head-good f h =
       states-range = within-range 1 stateLimit (u16At v 3) (and-right (a && b && c && d) e h);
     }
 
-pub good-head : (f : Field) → GoodHead f → headGood f ≡ true
+pub good-head : (f : Field) → HeadField f → headGood f ≡ true
 unfolding headGood
 good-head f h =
     let v = f .value in
@@ -241,7 +235,7 @@ good-head f h =
       range-within 1 stateLimit (u16At v 3) (h .states-range .0) (h .states-range .1),
     )
 
-pub head-written : (f : Field) (site : Site) → GoodHead f → Bytes (f .value)
+pub head-written : (f : Field) (site : Site) → HeadField f → Bytes (f .value)
     → site .horizon ≡ u16At (f .value) 0 → site .cells ≡ getD (f .value) 2 0 → length (site .states) ≡ u16At (f .value) 3
     → headField site ≡ f
 head-written f site h bytes horizon cells states =
@@ -250,7 +244,7 @@ head-written f site h bytes horizon cells states =
     let (c, d) = two-bytes v bytes 3 in
     field-is f _ _ (h .tag-right) (rw (horizon, cells, states, a, b, c, d) (list-of v headSize (h .size-right)))
 
-pub head-made : (site : Site) → WellFormed site → GoodHead (headField site)
+pub head-made : (site : Site) → WellFormed site → HeadField (headField site)
 head-made site well =
     let horizon = u16-back (site .horizon) (omega arith) in
     let states = u16-back (length (site .states)) (omega arith) in

@@ -15,8 +15,9 @@ use Rattle.meaning.specs.Fields.{Field, fields, complete, listed, fields
 use Rattle.meaning.specs.Site.{State, Motion, Site, stateOf, motionOf, headOf, laterOf, stateCount, siteOf}
 use Rattle.meaning.specs.Site.{headGood, layoutGood, cellGood, motionGood, siteRefusals, readSite}
 use Rattle.meaning.specs.WellFormed.{GoodMotion, WellFormed, stateField, motionField, headField, fileOf}
+use Rattle.meaning.specs.Refusals.{Writable}
 use Rattle.meaning.specs.Laws.{SitesRight}
-use Rattle.meaning.proofs.BasicsLaws.{all-head, all-tail, all-each, each-all, u16-back}
+use Rattle.meaning.proofs.BasicsLaws.{all-head, all-tail, all-each, each-all, each-map, u16-back}
 use Rattle.meaning.proofs.AnswersLaws.{lowest-none, lowest-clear, answer-accepted, accepted-answer, site-rise}
 use Rattle.meaning.proofs.FieldsLaws.{fields-of, bytes-of}
 use Rattle.meaning.proofs.MotionLaws.{motion-good, good-motion}
@@ -69,7 +70,7 @@ site-read file e = accepted-answer (siteOf file) (lowest (siteRefusals file)) e
 abbrev CellKnown : Site → State → Type 0
 CellKnown site s = s .cell < site .cells
 
-motions-well : (site : Site) (ms : List Field) → Each IsMotion ms → all (motionGood site) (map motionOf ms) ≡ true
+pub motions-well : (site : Site) (ms : List Field) → Each IsMotion ms → all (motionGood site) (map motionOf ms) ≡ true
     → Each (GoodMotion site) (map motionOf ms)
 motions-well site [] h k = tt
 motions-well site (f ∷ ms) (h, hs) k =
@@ -154,24 +155,41 @@ passes-file file bytes p =
 abbrev siteFields : Site → List Field
 siteFields site = map stateField (site .states) ++ map motionField (site .motions)
 
-motion-fits : (site : Site) (m : Motion) → GoodMotion site m → length (motionField m .value) < 65536
-motion-fits site m good = let e = motion-size m in let most = good .few-sweeps in omega arith
+-- a motion that a file can hold
+abbrev MotionFits : Motion → Type 0
+MotionFits m = (m .from < 65536) × (m .to < 65536) × (length (m .sweeps) ≤ 16)
+
+motion-fits : (m : Motion) → MotionFits m → length (motionField m .value) < 65536
+motion-fits m (from, to, most) = let e = motion-size m in omega arith
+
+well-written : (site : Site) → WellFormed site → Writable site
+well-written site well = record {
+  horizon-fits = omega (arith, well .horizon-range .1);
+  states-fit = omega (arith, well .states-range .1);
+  motions-fit = each-map (GoodMotion site) MotionFits
+      (λ m good.
+      let from = good .from-below in
+      let to = good .to-below in
+      let most = well .states-range .1 in
+      (omega arith, omega arith, good .few-sweeps)) (site .motions) (well .motions-good);
+}
 
 -- no field is too long
-fields-fit : (site : Site) → WellFormed site → Each (λ (f : Field). length (f .value) < 65536) (headField site ∷ siteFields site)
-fields-fit site well = (omega arith, each-joined Short (map stateField (site .states)) (map motionField (site .motions)) states motions)
+fields-fit : (site : Site) → Writable site → Each (λ (f : Field). length (f .value) < 65536) (headField site ∷ siteFields site)
+fields-fit site fit = (omega arith, each-joined Short (map stateField (site .states)) (map motionField (site .motions)) (states (site .states)) motions)
   where
     Short : Field → Type 0
     Short f = length (f .value) < 65536
 
-    states : Each Short (map stateField (site .states))
-    states = each-mapped (CellKnown site) Short stateField (λ s h. omega arith) (site .states) (well .state-cells)
+    states : (ss : List State) → Each Short (map stateField ss)
+    states [] = tt
+    states (s ∷ ss) = (omega arith, states ss)
 
     motions : Each Short (map motionField (site .motions))
-    motions = each-mapped (GoodMotion site) Short motionField (motion-fits site) (site .motions) (well .motions-good)
+    motions = each-mapped MotionFits Short motionField motion-fits (site .motions) (fit .motions-fit)
 
 -- what is read from a file with the fields of the site
-module _ (file : List ℕ) (site : Site) (well : WellFormed site) (same : listed (fields file) ≡ headField site ∷ siteFields site) where
+module _ (file : List ℕ) (site : Site) (fit : Writable site) (same : listed (fields file) ≡ headField site ∷ siteFields site) where
   file-head : headOf file ≡ headField site
   unfolding headOf
   file-head = rw same
@@ -182,27 +200,39 @@ module _ (file : List ℕ) (site : Site) (well : WellFormed site) (same : listed
 
   file-count : stateCount file ≡ length (site .states)
   unfolding stateCount
-  file-count = rw file-head (u16-back (length (site .states)) (omega arith))
+  file-count = rw file-head (u16-back (length (site .states)) (fit .states-fit))
 
   file-states : map stateOf (take (stateCount file) (laterOf file)) ≡ site .states
   file-states =
       let ss = map stateField (site .states) in
       rw (file-count, file-later, take-at ss (map motionField (site .motions)) (length (site .states)) (length-map (site .states) stateField))
-      (map-back (CellKnown site) stateField stateOf (λ s h. state-read s) (site .states) (well .state-cells))
+      (states-back (site .states))
+    where
+      states-back : (ss : List State) → map stateOf (map stateField ss) ≡ ss
+      states-back [] = refl
+      states-back (s ∷ ss) = ap₂ {C = List State} (λ x xs. x ∷ xs) (state-read s) (states-back ss)
 
   file-motions : map motionOf (drop (stateCount file) (laterOf file)) ≡ site .motions
   file-motions =
       let ss = map stateField (site .states) in
       rw (file-count, file-later, drop-at ss (map motionField (site .motions)) (length (site .states)) (length-map (site .states) stateField))
-      (map-back (GoodMotion site) motionField motionOf
-      (λ m good. let from = good .from-below in let to = good .to-below in motion-read m (omega arith) (omega arith)) (site .motions) (well .motions-good))
+      (map-back MotionFits motionField motionOf (λ m (from, to, most). motion-read m from to) (site .motions) (fit .motions-fit))
 
   file-site : siteOf file ≡ site
   unfolding siteOf
   file-site =
-      let horizon : u16At (headOf file .value) 0 ≡ site .horizon = rw file-head (u16-back (site .horizon) (omega arith)) in
+      let horizon : u16At (headOf file .value) 0 ≡ site .horizon = rw file-head (u16-back (site .horizon) (fit .horizon-fits)) in
       let cells : getD (headOf file .value) 2 0 ≡ site .cells = rw file-head in
       λ i. record { horizon = horizon i; cells = cells i; states = file-states i; motions = file-motions i }
+
+-- the file of any site is read as that site, refused or not
+pub written-read : (site : Site) → Writable site → siteOf (fileOf site) ≡ site
+unfolding fileOf
+written-read site fit = file-site (fileOf site) site fit (fields-of (headField site ∷ siteFields site) (fields-fit site fit) .1)
+
+module _ (file : List ℕ) (site : Site) (well : WellFormed site) (same : listed (fields file) ≡ headField site ∷ siteFields site) where
+  abbrev fit : Writable site
+  fit = well-written site well
 
   file-layout : layoutGood (stateCount file) (laterOf file) ≡ true
   file-layout =
@@ -212,24 +242,24 @@ module _ (file : List ℕ) (site : Site) (well : WellFormed site) (same : listed
       let moving = each-mapped (GoodMotion site) IsMotion motionField (λ m good. motion-made m (good .some-sweeps) (good .few-sweeps))
       (site .motions) (well .motions-good) in
       let laid = laid-motions ms moving (rw (length-map (site .motions) motionField) (well .motions-range)) in
-      rw (file-count, file-later) (rw (length-map (site .states) stateField) at (laid-out ss ms standing laid))
+      rw (file-count file site fit same, file-later file site fit same) (rw (length-map (site .states) stateField) at (laid-out ss ms standing laid))
 
   file-passes : length file ≤ fileLimit → complete (fields file) ≡ true → Passes file
   file-passes short whole = record {
     short = short;
     whole = whole;
-    head = rw file-head (good-head (headField site) (head-made site well));
+    head = rw (file-head file site fit same) (good-head (headField site) (head-made site well));
     layout = file-layout;
-    cells = rw file-site (each-all (CellKnown site) (cellGood (site .cells)) (λ s. lt-ltb (s .cell) (site .cells)) (site .states) (well .state-cells));
-    motions = rw file-site (each-all (GoodMotion site) (motionGood site) (good-motion site) (site .motions) (well .motions-good));
+    cells = rw (file-site file site fit same) (each-all (CellKnown site) (cellGood (site .cells)) (λ s. lt-ltb (s .cell) (site .cells)) (site .states) (well .state-cells));
+    motions = rw (file-site file site fit same) (each-all (GoodMotion site) (motionGood site) (good-motion site) (site .motions) (well .motions-good));
   }
 
 made-read : (site : Site) → WellFormed site → length (fileOf site) ≤ fileLimit → readSite (fileOf site) ≡ accepted site
 unfolding fileOf
 made-read site well short =
     let file = fileOf site in
-    let (whole, same) = fields-of (headField site ∷ siteFields site) (fields-fit site well) in
-    site-read file (passed file (file-passes file site well same short whole)) ∙ ap accepted (file-site file site well same)
+    let (whole, same) = fields-of (headField site ∷ siteFields site) (fields-fit site (well-written site well)) in
+    site-read file (passed file (file-passes file site well same short whole)) ∙ ap accepted (file-site file site (well-written site well) same)
 
 read-made : (file : List ℕ) (site : Site) → Bytes file → readSite file ≡ accepted site
     → WellFormed site × (fileOf site ≡ file) × (length file ≤ fileLimit)

@@ -1,8 +1,11 @@
 -- All theorems about the definitions, each as it is stated in specs/.
 -- Assumes nothing.
 use Rattle.meaning.specs.Laws.{RefusalsRise, HoldersRight, SitesRight, LightsRight, PlansRight, SearchRight, IntervalsRight, HandoverRight, DayRight}
+use Rattle.meaning.specs.Refusals.{RefusalsSay, BytesRight, PlainRight}
 use Rattle.meaning.specs.Demands.{Desk, Exact, meantDesk, Demand1, Demand2, Demand3}
 use Rattle.meaning.proofs.AnswersLaws.{refusals-rise}
+use Rattle.meaning.proofs.RefusalLaws.{bytes-right, plain-right}
+use Rattle.meaning.proofs.SiteRefusalLaws.{refusals-say}
 use Rattle.meaning.proofs.HolderLaws.{holders-right}
 use Rattle.meaning.proofs.SiteLaws.{sites-right}
 use Rattle.meaning.proofs.LightLaws.{lights-right}
@@ -14,10 +17,13 @@ use Rattle.meaning.proofs.DayLaws.{day-right}
 use Rattle.meaning.proofs.DemandLaws.{exact-demand1, exact-demand2}
 use Rattle.meaning.proofs.ListLaws.{exact-demand3}
 
--- ---- the laws of specs/Laws.antt
+-- ---- the laws of specs/Laws.antt and specs/Refusals.antt
 
 pub record AllLaws : Type 0 where
   pub rise : RefusalsRise
+  pub say : RefusalsSay
+  pub bytes : BytesRight
+  pub plain : PlainRight
   pub holders : HoldersRight
   pub sites : SitesRight
   pub lights : LightsRight
@@ -30,6 +36,9 @@ pub record AllLaws : Type 0 where
 pub all-laws : AllLaws
 all-laws = record {
   rise = refusals-rise;
+  say = refusals-say;
+  bytes = bytes-right;
+  plain = plain-right;
   holders = holders-right;
   sites = sites-right;
   lights = lights-right;

@@ -1,12 +1,11 @@
 -- The three demands, as statements about any desk. A wrong desk is a desk too, and a demand that it meets would be too weak.
 -- Assumes nothing.
-use Prim.Native.Nat.{ℕ, _+_, _≤_, _<_}
+use Prim.Native.Nat.{ℕ, _+_, _*_, _≤_, _<_}
 use mathlib.Core.Path.{_≡_}
 use mathlib.Core.Bool.{true}
 use mathlib.Core.Option.{some}
 use mathlib.Core.List.{List, [], _∷_, map}
 use lib.ListN.{length, getD, take, replicate}
-use Rattle.meaning.specs.Limits.{lastClosure}
 use Rattle.meaning.specs.Basics.{Each, Some, Bytes}
 use Rattle.meaning.specs.Answers.{Clears, lowest, accepted}
 use Rattle.meaning.specs.Site.{Site, siteOf, readSite}
@@ -14,9 +13,10 @@ use Rattle.meaning.specs.Board.{free, boardLength, byteAt, edition}
 use Rattle.meaning.specs.Plan.{Step, Node}
 use Rattle.meaning.specs.Light.{Light, startOf, goalOf, decode}
 use Rattle.meaning.specs.Intervals.{Interval, numbersOf}
-use Rattle.meaning.specs.Calls.{Call, route, audit, post, close, withdraw, PublicCall, opening, interval, listed, Lent, roomOf, wordsNeeded, refusals, Done, meant}
+use Rattle.meaning.specs.Calls.{Call, route, audit, post, close, withdraw, PublicCall, opening, interval, listed, Lent, roomOf, refusals, Done, meant}
 use Rattle.meaning.specs.PlainBoard.{Entry, Plain, emptyPlain, hasPair, Seen, plainSeen, plainAfter, bytesOf}
 use Rattle.meaning.specs.ValidPlans.{Valid, Reached, Holds}
+use Rattle.meaning.specs.Refusals.{bytesSight, CloseAccepted, LightAccepted, WithdrawAccepted, RouteAccepted}
 use Rattle.meaning.specs.SafeIntervals.{AllSafeIntervals}
 
 -- `desk file lent call done`: on this site file and with this lent, the call may return and leave this
@@ -71,28 +71,49 @@ pub record Demand1 (desk : Desk) : Type 0 where
   -- except that a completed search without a plan leaves the working words it needs zero
   pub no-plan : (file : List ℕ) (l : Lent) (q : PublicCall) (d : Done) → desk file l q d → d .number ≡ 18
       → (d .values ≡ []) × (d .lent .board ≡ l .board) × (d .lent .out ≡ l .out)
-      × Written (replicate (wordsNeeded (siteOf file)) 0) (l .words) (d .lent .words)
-  -- what an accepted call writes
+      × Written (replicate (length (siteOf file .states) * (siteOf file .horizon + 1)) 0) (l .words) (d .lent .words)
+  -- what an accepted call writes, and what it was accepted for: first of all, a light is posted on its own edition or not at all
   pub opened : (file : List ℕ) (l : Lent) (d : Done) → desk file l opening d → d .number ≡ 0
       → OnlyBoard l d × (d .lent .board ≡ replicate (boardLength (siteOf file)) 0)
+  pub opens : (file : List ℕ) (site : Site) → readSite file ≡ accepted site
+      → (l : Lent) → length (l .board) ≡ 4 + site .cells * (site .horizon + 1)
+      → (d : Done) → desk file l opening d → d .number ≡ 0
   pub closed : (file : List ℕ) (l : Lent) (h cell first last : ℕ) (d : Done) → Bytes (l .board)
       → desk file l (listed (close h cell first last)) d → d .number ≡ 0
       → OnlyBoard l d × Rewritten (siteOf file) (l .board) (d .lent .board) (λ c t. (c ≡ cell) × (first ≤ t) × (t ≤ last)) h
+      × CloseAccepted (siteOf file) (bytesSight (siteOf file) (l .board)) h cell first last
   pub posted : (file : List ℕ) (l : Lent) (light : List ℕ) (d : Done) → Bytes (l .board)
       → desk file l (listed (post light)) d → d .number ≡ 0
       → (x : Light) × (decode light ≡ some x)
       × OnlyBoard l d × Rewritten (siteOf file) (l .board) (d .lent .board) (Holds (siteOf file) (startOf x) (x .steps)) (x .tug)
+      × LightAccepted (siteOf file) (bytesSight (siteOf file) (l .board)) x
   pub withdrawn : (file : List ℕ) (l : Lent) (h : ℕ) (d : Done) → Bytes (l .board)
       → desk file l (listed (withdraw h)) d → d .number ≡ 0
       → OnlyBoard l d × Rewritten (siteOf file) (l .board) (d .lent .board) (λ c t. byteAt (siteOf file) (l .board) c t ≡ h) 0
+      × WithdrawAccepted (siteOf file) (bytesSight (siteOf file) (l .board)) h
   pub audited : (file : List ℕ) (l : Lent) (light : List ℕ) (d : Done) → desk file l (listed (audit light)) d
       → (d .values ≡ []) × (d .lent ≡ l) × (d .number ≡ meant file l (listed (post light)) .number)
   pub granted : (file : List ℕ) (l : Lent) (tug : ℕ) (a : Node) (goal : ℕ) (d : Done) → desk file l (listed (route tug a goal)) d → d .number ≡ 0
       → (d .lent .board ≡ l .board)
       × Written (lightOut d) (l .out) (d .lent .out)
-      × Written (replicate (wordsNeeded (siteOf file)) 0) (l .words) (d .lent .words)
+      × Written (replicate (length (siteOf file .states) * (siteOf file .horizon + 1)) 0) (l .words) (d .lent .words)
+      × RouteAccepted (siteOf file) (bytesSight (siteOf file) (l .board)) (roomOf l) tug a goal
 
 -- ---- demand 2
+
+-- what holds of a route call that passes checks 1 to 14, on the board that it gets
+pub record RouteRight (site : Site) (board : List ℕ) (tug : ℕ) (a : Node) (goal : ℕ) (d : Done) : Type 0 where
+  -- it is granted exactly when some valid plan leads to its goal by the horizon; else it is 18
+  pub granted-if : (t : ℕ) → Reached site (free site board) a (record { state = goal; tick = t }) → d .number ≡ 0
+  pub refused-if : ((t : ℕ) → Reached site (free site board) a (record { state = goal; tick = t }) → ⊥) → d .number ≡ 18
+  -- the granted light is such a plan, made from the board's edition, and every other such plan arrives on the same tick or later
+  pub light : d .number ≡ 0
+      → (x : Light)
+      × (decode (lightOut d) ≡ some x)
+      × (x .edition ≡ edition board) × (x .tug ≡ tug) × (startOf x ≡ a) × (x .goal ≡ goal)
+      × (d .values ≡ length (lightOut d) ∷ x .arrival ∷ [])
+      × Valid site (free site board) a (x .steps) (record { state = goal; tick = x .arrival })
+      × ((ps : List Step) (t : ℕ) → Valid site (free site board) a ps (record { state = goal; tick = t }) → x .arrival ≤ t)
 
 pub record Demand2 (desk : Desk) : Type 0 where
   -- the free intervals reported for a cell are all its safe intervals, and only those
@@ -109,6 +130,10 @@ pub record Demand2 (desk : Desk) : Type 0 where
   pub audit-fails : (file : List ℕ) (l : Lent) (light : List ℕ) (x : Light) (d : Done) → desk file l (listed (audit light)) d
       → Clears 16 (refusals file l (listed (audit light))) → decode light ≡ some x
       → (Valid (siteOf file) (free (siteOf file) (l .board)) (startOf x) (x .steps) (goalOf x) → ⊥) → d .number ≡ 17
+  -- routes, over boards of any content
+  pub routes : (file : List ℕ) (l : Lent) (tug : ℕ) (a : Node) (goal : ℕ) (d : Done) → Bytes (l .board)
+      → desk file l (listed (route tug a goal)) d → Clears 14 (refusals file l (listed (route tug a goal)))
+      → RouteRight (siteOf file) (l .board) tug a goal d
 
 -- ---- demand 3
 
@@ -145,20 +170,6 @@ plainSeenAll site p (x ∷ xs) = plainSeen site p (roomOf (x .lent)) (x .call) �
 abbrev pub Has : List Entry → ℕ → ℕ → ℕ → Type 0
 Has es h c t = Some (λ (e : Entry). (e .holder ≡ h) × (hasPair (e .pairs) c t ≡ true)) es
 
--- what holds of a route call that passes checks 1 to 14, on the board that it gets
-pub record RouteRight (site : Site) (board : List ℕ) (tug : ℕ) (a : Node) (goal : ℕ) (d : Done) : Type 0 where
-  -- it is granted exactly when some valid plan leads to its goal by the horizon; else it is 18
-  pub granted-if : (t : ℕ) → Reached site (free site board) a (record { state = goal; tick = t }) → d .number ≡ 0
-  pub refused-if : ((t : ℕ) → Reached site (free site board) a (record { state = goal; tick = t }) → ⊥) → d .number ≡ 18
-  -- the granted light is such a plan, made from the board's edition, and every other such plan arrives on the same tick or later
-  pub light : d .number ≡ 0
-      → (x : Light)
-      × (decode (lightOut d) ≡ some x)
-      × (x .edition ≡ edition board) × (x .tug ≡ tug) × (startOf x ≡ a) × (x .goal ≡ goal)
-      × (d .values ≡ length (lightOut d) ∷ x .arrival ∷ [])
-      × Valid site (free site board) a (x .steps) (record { state = goal; tick = x .arrival })
-      × ((ps : List Step) (t : ℕ) → Valid site (free site board) a ps (record { state = goal; tick = t }) → x .arrival ≤ t)
-
 abbrev pub RouteTurn : List ℕ → Site → Turn → Type 0
 RouteTurn file site x =
     (tug : ℕ) (a : Node) (goal : ℕ) → x .call ≡ route tug a goal
@@ -170,9 +181,10 @@ pub record ListRight (file : List ℕ) (site : Site) (board : List ℕ) (xs : Li
   -- the board, every call's number, and every granted route's light, length and arrival equal those of the plain board
   pub same-board : boardAfter board xs ≡ bytesOf site (plainAfterAll site emptyPlain xs)
   pub same-answers : map seen xs ≡ plainSeenAll site emptyPlain xs
+  pub edition-fits : plainAfterAll site emptyPlain xs .edition ≤ 4294967295
   -- no two holders have the same cell on the same tick, and 255 is no holder
   pub no-two : (h k c t : ℕ) → Has (plainAfterAll site emptyPlain xs .entries) h c t → Has (plainAfterAll site emptyPlain xs .entries) k c t → h ≡ k
-  pub known : (h c t : ℕ) → Has (plainAfterAll site emptyPlain xs .entries) h c t → (1 ≤ h) × (h ≤ lastClosure)
+  pub known : (h c t : ℕ) → Has (plainAfterAll site emptyPlain xs .entries) h c t → (1 ≤ h) × (h ≤ 254)
   -- each route call of the list
   pub routes : Each (RouteTurn file site) xs
 

@@ -1,24 +1,23 @@
 -- The theorems about the definitions: each record is one statement, proved in proofs/Theorems.antt.
 -- Assumes nothing.
-use Prim.Native.Nat.{ℕ, suc, _+_, _≤_, _<_}
+use Prim.Native.Nat.{ℕ, suc, _+_, _*_, _≤_, _<_}
 use mathlib.Core.Path.{_≡_}
 use mathlib.Core.Bool.{Bool, true, false}
-use mathlib.Core.Option.{none, some}
-use mathlib.Core.List.{List, [], _++_}
-use lib.ListN.{length, drop}
-use Rattle.meaning.specs.Limits.{fileLimit, lastTug, lastClosure}
-use Rattle.meaning.specs.Basics.{Bytes}
+use mathlib.Core.Option.{Option, none, some}
+use mathlib.Core.List.{List, [], _∷_, _++_}
+use lib.ListN.{length, getD, take, drop, replicate}
+use Rattle.meaning.specs.Basics.{Bytes, put16}
 use Rattle.meaning.specs.Answers.{RiseFrom, accepted}
-use Rattle.meaning.specs.Fields.{fields}
+use Rattle.meaning.specs.Fields.{Field, fields}
 use Rattle.meaning.specs.Site.{Site, siteOf, readSite}
-use Rattle.meaning.specs.Board.{Free, isTug, isClosure, isHolder}
+use Rattle.meaning.specs.Board.{Free, edition, isTug, isClosure, isHolder}
 use Rattle.meaning.specs.Plan.{Step, Node, planEnd, planPairs}
 use Rattle.meaning.specs.Reach.{reachWord, Route, findRoute}
 use Rattle.meaning.specs.Light.{Light, encode, decode}
 use Rattle.meaning.specs.Intervals.{intervals, numbersOf}
-use Rattle.meaning.specs.Calls.{PublicCall, route, Lent, bytesView, numbersRoom, lightRoom, refusals, grantedLight}
+use Rattle.meaning.specs.Calls.{Call, route, audit, post, close, withdraw, PublicCall, opening, listed, Lent, lends, onBoard, bytesView, numbersRoom, lightRoom, refusals, grantedLight, meant}
 use Rattle.meaning.specs.PlainBoard.{hasPair}
-use Rattle.meaning.specs.Day.{Day, dayDone, dayAfter, linesFrom, decimal, numberIn, piece, lineNext, dayNext, linesOn}
+use Rattle.meaning.specs.Day.{Day, callOf, dayDone, lineOf, dayAfter, linesFrom, dayBoard, decimal, numberIn, textOf, texts, dayText, piece, lineNext, dayNext, linesOn}
 use Rattle.meaning.specs.ValidPlans.{Valid, Reached, Arrival, Holds, Traced, mergeWaits}
 use Rattle.meaning.specs.SafeIntervals.{AllSafeIntervals}
 use Rattle.meaning.specs.WellFormed.{WellFormed, fileOf, KeepsLayout}
@@ -29,19 +28,19 @@ pub record RefusalsRise : Type 0 where
 
 -- the holders of 9, at each end; 255 is no holder
 pub record HoldersRight : Type 0 where
-  pub tugs : (h : ℕ) → isTug h ≡ true → (1 ≤ h) × (h ≤ lastTug)
-  pub all-tugs : (h : ℕ) → 1 ≤ h → h ≤ lastTug → isTug h ≡ true
-  pub closures : (h : ℕ) → isClosure h ≡ true → (lastTug < h) × (h ≤ lastClosure)
-  pub all-closures : (h : ℕ) → lastTug < h → h ≤ lastClosure → isClosure h ≡ true
-  pub holders : (h : ℕ) → isHolder h ≡ true → (1 ≤ h) × (h ≤ lastClosure)
-  pub all-holders : (h : ℕ) → 1 ≤ h → h ≤ lastClosure → isHolder h ≡ true
+  pub tugs : (h : ℕ) → isTug h ≡ true → (1 ≤ h) × (h ≤ 199)
+  pub all-tugs : (h : ℕ) → 1 ≤ h → h ≤ 199 → isTug h ≡ true
+  pub closures : (h : ℕ) → isClosure h ≡ true → (200 ≤ h) × (h ≤ 254)
+  pub all-closures : (h : ℕ) → 200 ≤ h → h ≤ 254 → isClosure h ≡ true
+  pub holders : (h : ℕ) → isHolder h ≡ true → (1 ≤ h) × (h ≤ 254)
+  pub all-holders : (h : ℕ) → 1 ≤ h → h ≤ 254 → isHolder h ≡ true
   pub not-255 : isHolder 255 ≡ false
 
 -- a file of bytes is accepted exactly when it is the file of a well-formed site of at most 65,536 bytes, and it is read as that site
 pub record SitesRight : Type 0 where
-  pub read-back : (site : Site) → WellFormed site → length (fileOf site) ≤ fileLimit → readSite (fileOf site) ≡ accepted site
+  pub read-back : (site : Site) → WellFormed site → length (fileOf site) ≤ 65536 → readSite (fileOf site) ≡ accepted site
   pub only-those : (file : List ℕ) (site : Site) → Bytes file → readSite file ≡ accepted site
-      → WellFormed site × (fileOf site ≡ file) × (length file ≤ fileLimit)
+      → WellFormed site × (fileOf site ≡ file) × (length file ≤ 65536)
 
 -- bytes are a light exactly when they are that light's bytes and it keeps the layout
 pub record LightsRight : Type 0 where
@@ -95,14 +94,56 @@ pub record HandoverRight : Type 0 where
       → (t : ℕ) → a .tick ≤ t → t < b .tick
       → ((c : ℕ) → Holds site a ps c (suc t) → Holds site d qs c t) → ⊥
 
--- the day program
+-- ---- the day program
+
+-- the field of a script that makes this call, given the last granted light; audit has none
+abbrev pub ScriptField : List ℕ → Call → Field → Type 0
+ScriptField light (close h cell first last) f =
+    (first < 65536) × (last < 65536) × (f ≡ record { tag = 32; value = h ∷ cell ∷ (put16 first ++ put16 last) })
+ScriptField light (withdraw h) f = f ≡ record { tag = 33; value = h ∷ [] }
+ScriptField light (route tug a goal) f =
+    (a .state < 65536) × (a .tick < 65536) × (goal < 65536)
+    × (f ≡ record { tag = 34; value = tug ∷ (put16 (a .state) ++ (put16 (a .tick) ++ put16 goal)) })
+ScriptField light (post granted) f = (granted ≡ light) × (f ≡ record { tag = 35; value = [] })
+ScriptField light (audit x) f = ⊥
+
+-- what is printed turn by turn, from a day on; nothing where the program has ended
+pub data Printed (file : List ℕ) : List ℕ → Option Day → List ℕ → Type 0 where
+  ended : {rest : List ℕ} → Printed file rest none []
+  turned : {rest text : List ℕ} {d : Day}
+      → Printed file (drop (length (piece rest)) rest) (dayNext file (fields (piece rest)) d) text
+      → Printed file rest (some d) (texts (lineNext file (fields (piece rest)) d) ++ text)
+
 pub record DayRight : Type 0 where
   -- it may read its script turn by turn: no more than a header, and the value that a call may have
   pub turn-by-turn : (file script : List ℕ) (d : Day)
       → linesFrom file (fields script) d
       ≡ lineNext file (fields (piece script)) d ++ linesOn file (drop (length (piece script)) script) (dayNext file (fields (piece script)) d)
-  -- after a grant the light that a post posts is the granted one
+  -- a refused open prints its number; after an accepted one the turns, one after the other, print the text of the whole script
+  pub refused : (file script : List ℕ) (n : ℕ) → meant file (onBoard (dayBoard file)) opening .number ≡ suc n
+      → dayText file script ≡ textOf (record { number = suc n; edition = 0; arrival = 0 }) ++ []
+  -- a site whose board is larger than the area meets 7
+  pub too-large : (file script : List ℕ) (site : Site) → readSite file ≡ accepted site → 65536 < 4 + site .cells * (site .horizon + 1)
+      → dayText file script ≡ textOf (record { number = 7; edition = 0; arrival = 0 }) ++ []
+  pub whole : (file script text : List ℕ) → meant file (onBoard (dayBoard file)) opening .number ≡ 0
+      → Printed file script (some (record { board = meant file (onBoard (dayBoard file)) opening .lent .board; light = [] })) text
+      → text ≡ dayText file script
+  -- a field makes a call exactly when it is that call's: another tag or length makes none
+  pub calls : (light : List ℕ) (f : Field) (c : Call) → Bytes (f .value) → callOf light f ≡ some c → ScriptField light c f
+  pub all-calls : (light : List ℕ) (f : Field) (c : Call) → ScriptField light c f → callOf light f ≡ some c
+  -- areas of 65,536 bytes, lent whole; the board is the front of one
+  pub areas : (file : List ℕ) (d : Day) (c : Call) → dayDone file d c ≡ meant file (lends (d .board) (replicate 65536 0) (replicate 16384 0)) (listed c)
+  pub board-area : (file : List ℕ) → dayBoard file ≡ take (4 + siteOf file .cells * (siteOf file .horizon + 1)) (replicate 65536 0)
+  -- after a grant the light that a post posts is the granted one, and every other call keeps it
   pub last-light : (file : List ℕ) (d : Day) (tug : ℕ) (a : Node) (goal : ℕ) → dayDone file d (route tug a goal) .number ≡ 0
       → dayAfter d (dayDone file d (route tug a goal)) .light ≡ encode (grantedLight (siteOf file) (bytesView (siteOf file) (d .board)) tug a goal)
-  -- the digits that are printed read as the number
+  pub keeps-light : (file : List ℕ) (d : Day) (c : Call)
+      → ((tug : ℕ) (a : Node) (goal : ℕ) → c ≡ route tug a goal → dayDone file d c .number ≡ 0 → ⊥)
+      → dayAfter d (dayDone file d c) .light ≡ d .light
+  -- the line of a refused call has the edition as it was
+  pub refused-line : (file : List ℕ) (d : Day) (c : Call) (n : ℕ) → dayDone file d c .number ≡ suc n
+      → lineOf (dayDone file d c) ≡ record { number = suc n; edition = edition (d .board); arrival = 0 }
+  -- the digits that are printed read as the number, and the first of several is not 0
   pub digits : (n : ℕ) → numberIn 0 (decimal n) ≡ n
+  pub no-leading-zero : (n : ℕ) → 1 ≤ n → getD (decimal n) 0 0 ≡ 48 → ⊥
+  pub one-digit : (n : ℕ) → n < 10 → decimal n ≡ (48 + n) ∷ []

@@ -14,6 +14,7 @@ pub mod Day
 pub mod ValidPlans
 pub mod SafeIntervals
 pub mod WellFormed
+pub mod Refusals
 pub mod Laws
 pub mod Demands
 pub mod EarliestOnly

@@ -5,7 +5,7 @@ use mathlib.Core.Path.{_≡_}
 use mathlib.Core.Bool.{Bool, true, false}
 use mathlib.Core.List.{List, [], _∷_, _++_, map}
 use lib.ListN.{length}
-use Rattle.meaning.specs.Limits.{horizonLimit, cellLimit, stateLimit, motionLimit, sweepLimit, lightLimit, lastEdition, headTag, stateTag, motionTag}
+use Rattle.meaning.specs.Limits.{headTag, stateTag, motionTag}
 use Rattle.meaning.specs.Basics.{Each, Some, put16}
 use Rattle.meaning.specs.Fields.{Field, fieldsBytes}
 use Rattle.meaning.specs.Site.{Site, State, Sweep, Motion, cellOf}
@@ -24,7 +24,7 @@ pub record GoodMotion (site : Site) (m : Motion) : Type 0 where
   pub differ : m .from ≡ m .to → ⊥
   pub takes-time : 1 ≤ m .span
   pub some-sweeps : 1 ≤ length (m .sweeps)
-  pub few-sweeps : length (m .sweeps) ≤ sweepLimit
+  pub few-sweeps : length (m .sweeps) ≤ 16
   pub sweeps-fit : Each (λ (w : Sweep). (w .cell < site .cells) × (w .first ≤ w .last) × (w .last ≤ m .span)) (m .sweeps)
   pub from-cell : Uses (m .sweeps) (cellOf site (m .from)) 0
   pub to-cell : Uses (m .sweeps) (cellOf site (m .to)) (m .span)
@@ -32,10 +32,10 @@ pub record GoodMotion (site : Site) (m : Motion) : Type 0 where
   pub handed-over : (j : ℕ) → j < m .span → (c : ℕ) × Uses (m .sweeps) c j × Uses (m .sweeps) c (suc j)
 
 pub record WellFormed (site : Site) : Type 0 where
-  pub horizon-range : (1 ≤ site .horizon) × (site .horizon ≤ horizonLimit)
-  pub cells-range : (1 ≤ site .cells) × (site .cells ≤ cellLimit)
-  pub states-range : (1 ≤ length (site .states)) × (length (site .states) ≤ stateLimit)
-  pub motions-range : length (site .motions) ≤ motionLimit
+  pub horizon-range : (1 ≤ site .horizon) × (site .horizon ≤ 1000)
+  pub cells-range : (1 ≤ site .cells) × (site .cells ≤ 255)
+  pub states-range : (1 ≤ length (site .states)) × (length (site .states) ≤ 256)
+  pub motions-range : length (site .motions) ≤ 2000
   pub state-cells : Each (λ (s : State). s .cell < site .cells) (site .states)
   pub motions-good : Each (GoodMotion site) (site .motions)
 
@@ -67,11 +67,11 @@ InLayout mayWait (move m ∷ ps) = (m < 65536) × InLayout true ps
 
 -- the head's numbers have their widths, and the steps keep the layout and leave the light at most 5,016 bytes
 pub record KeepsLayout (l : Light) : Type 0 where
-  pub edition-fits : l .edition ≤ lastEdition
+  pub edition-fits : l .edition ≤ 4294967295
   pub tug-fits : l .tug < 256
   pub start-fits : l .start < 65536
   pub tick-fits : l .tick < 65536
   pub goal-fits : l .goal < 65536
   pub arrival-fits : l .arrival < 65536
   pub laid-out : InLayout true (l .steps)
-  pub short : 16 + 5 * length (l .steps) ≤ lightLimit
+  pub short : 16 + 5 * length (l .steps) ≤ 5016

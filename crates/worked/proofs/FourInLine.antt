@@ -12,7 +12,7 @@ use Rattle.meaning.specs.Light.{encode, lightOf, isLightHead, isWait, isMove, i
 use Rattle.meaning.specs.Intervals.{begins, runEnd, intervalsFrom, intervals}
 use Rattle.meaning.specs.Calls.{bytesView, startNamed, runNamed, lightNamed, lightValid, routeRefusals, lightRefusals, closeRefusals, withdrawRefusals, intervalRefusals, refusals, grantedLight, changed, acceptedDone, refusedDone, meant}
 use Rattle.meaning.specs.Day.{callOf, dayDone, linesFrom, dayLines, decimal}
-use Rattle.worked.specs.FourInLine.{called, fresh, closed, posted, lightFor, routed, boardB, boardC, boardD, boardN, lightA, postedA, Starred, Computed}
+use Rattle.worked.specs.FourInLine.{called, fresh, closed, posted, lightFor, routed, boardB, boardC, boardD, boardN, lightA, postedA, lentRoute, lentInterval, Starred, Computed}
 
 pub all-cases : Starred × Computed
 unfolding every any all allBelow within lowest answer split fields complete listed
@@ -21,7 +21,7 @@ unfolding every any all allBelow within lowest answer split fields complete list
     allowed walk startFree planEnd planPairs byWait byMotion word firstRow withRow rowsTo trace tracedRoute routeIn findRoute
     encode lightOf isLightHead isWait isMove inLayout isLight decode begins runEnd intervalsFrom intervals
     bytesView startNamed runNamed lightNamed lightValid routeRefusals lightRefusals closeRefusals withdrawRefusals intervalRefusals refusals grantedLight changed acceptedDone refusedDone meant
-    called fresh closed posted lightFor routed boardB boardC boardD boardN lightA postedA callOf dayDone linesFrom dayLines decimal
+    called fresh closed posted lightFor routed boardB boardC boardD boardN lightA postedA lentRoute lentInterval callOf dayDone linesFrom dayLines decimal
 all-cases = (
   record {
     size = refl;
@@ -36,6 +36,7 @@ all-cases = (
     G = refl;
     H = refl;
     I = refl;
+    I-light = refl;
     K-first = refl;
     K-edition = refl;
     K-again = refl;
@@ -45,5 +46,33 @@ all-cases = (
     N-count = refl;
     N-area = refl;
   },
-  record { A-earliest-only = refl; J-late = refl; J-last = refl; O = refl; day = refl; day-text = refl; day-cut = refl; day-tag = refl; day-refused = refl; day-empty = refl },
+  record {
+    A-earliest-only = refl;
+    wait-earliest-only = refl;
+    area-fits = refl;
+    area-75 = refl;
+    words-64 = refl;
+    words-zero = refl;
+    words-later = refl;
+    numbers-14 = refl;
+    numbers-13 = refl;
+    J-late = refl;
+    J-last = refl;
+    O = refl;
+    day = refl;
+    day-text = refl;
+    day-cut = refl;
+    day-tag = refl;
+    day-refused = refl;
+    day-empty = refl;
+    day-start = refl;
+    day-stale = refl;
+    day-close-5 = refl;
+    day-close-7 = refl;
+    day-withdraw-0 = refl;
+    day-withdraw-2 = refl;
+    day-route-6 = refl;
+    day-route-8 = refl;
+    day-post-1 = refl;
+  },
 )

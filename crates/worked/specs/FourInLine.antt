@@ -34,7 +34,7 @@ siteFile =
 -- ---- calls on a board, with areas that just fit and are not zero
 
 unfoldable pub called : List ℕ → PublicCall → Done
-called board q = meant siteFile (lends board (replicate 76 238) (replicate 66 9)) q
+called board q = meant siteFile (lends board (replicate 76 238) (replicate 65 9)) q
 
 abbrev pub boardOf : Done → List ℕ
 boardOf d = d .lent .board
@@ -100,6 +100,22 @@ lightB =
     ∷ 0x12 ∷ 0x00 ∷ 0x02 ∷ 0x00 ∷ 0x02
     ∷ []
 
+-- I's light: start 1, tick 3
+abbrev pub lightI : List ℕ
+lightI =
+    0x10 ∷ 0x00 ∷ 0x0D ∷ 0x00 ∷ 0x00 ∷ 0x00 ∷ 0x01 ∷ 0x07 ∷ 0x00 ∷ 0x01 ∷ 0x00 ∷ 0x03 ∷ 0x00 ∷ 0x04 ∷ 0x00 ∷ 0x09
+    ∷ 0x12 ∷ 0x00 ∷ 0x02 ∷ 0x00 ∷ 0x03
+    ∷ 0x12 ∷ 0x00 ∷ 0x02 ∷ 0x00 ∷ 0x04
+    ∷ 0x12 ∷ 0x00 ∷ 0x02 ∷ 0x00 ∷ 0x02
+    ∷ []
+
+-- a route with other areas
+unfoldable pub lentRoute : ℕ → ℕ → Done
+lentRoute out words = meant siteFile (lends fresh (replicate out 238) (replicate words 9)) (listed (route 7 (node 0 0) 4))
+
+unfoldable pub lentInterval : ℕ → Done
+lentInterval out = meant siteFile (lends boardN (replicate out 238) []) (interval 1)
+
 -- O: the site with one more motion, 0 to 2 in one tick, that lets go of cell 0 as it takes cell 1
 abbrev pub siteFileO : List ℕ
 siteFileO = siteFile ++ fieldsBytes (record { tag = 3; value = 0 ∷ 0 ∷ 0 ∷ 2 ∷ 1 ∷ 0 ∷ 0 ∷ 0 ∷ 1 ∷ 1 ∷ 1 ∷ [] } ∷ [])
@@ -116,6 +132,10 @@ routing = record { tag = 34; value = 7 ∷ 0 ∷ 0 ∷ 0 ∷ 0 ∷ 0 ∷ 4 ∷ [
 
 abbrev pub posting : Field
 posting = record { tag = 35; value = [] }
+
+-- a field with a value of n bytes
+abbrev pub sized : ℕ → ℕ → List ℕ
+sized tag n = fieldsBytes (record { tag = tag; value = replicate n 1 } ∷ [])
 
 abbrev pub script : List ℕ
 script = fieldsBytes (closing ∷ routing ∷ posting ∷ [])
@@ -138,6 +158,7 @@ pub record Starred : Type 0 where
   pub G : routed (closed 200 0 0 0 fresh) (node 0 0) 4 ≡ refused 18
   pub H : routed fresh (node 4 12) 4 ≡ found [] 12
   pub I : routed (closed 200 2 4 4 fresh) (node 1 3) 4 ≡ found (move 3 ∷ move 4 ∷ move 2 ∷ []) 9
+  pub I-light : lightFor (closed 200 2 4 4 fresh) (node 1 3) 4 ≡ lightI
   pub K-first : called boardB (listed (post lightB)) .number ≡ 0
   pub K-edition : edition (posted lightB boardB) ≡ 2
   pub K-again : called (posted lightB boardB) (listed (post lightB)) .number ≡ 12
@@ -151,6 +172,16 @@ pub record Starred : Type 0 where
 pub record Computed : Type 0 where
   -- an earliest-only search does find the way of case A
   pub A-earliest-only : earliestNumber (siteOf siteFile) (free (siteOf siteFile) fresh) (node 0 0) 4 ≡ 0
+  -- and one that must wait
+  pub wait-earliest-only : earliestNumber (siteOf siteFile) (free (siteOf siteFile) (closed 200 1 1 1 fresh)) (node 0 0) 4 ≡ 0
+  -- areas that just fit, and one less
+  pub area-fits : lentRoute 76 65 .number ≡ 0
+  pub area-75 : lentRoute 75 65 .number ≡ 14
+  pub words-64 : lentRoute 76 64 .number ≡ 14
+  pub words-zero : lentRoute 76 65 .lent .words ≡ replicate 65 0
+  pub words-later : lentRoute 76 67 .lent .words ≡ replicate 65 0 ++ (9 ∷ 9 ∷ [])
+  pub numbers-14 : lentInterval 14 .number ≡ 0
+  pub numbers-13 : lentInterval 13 .number ≡ 14
   pub J-late : routed fresh (node 0 13) 4 ≡ refused 10
   pub J-last : routed fresh (node 0 12) 4 ≡ refused 18
   pub O : readSite siteFileO ≡ refused 6
@@ -168,3 +199,18 @@ pub record Computed : Type 0 where
   pub day-tag : dayLines siteFile (fieldsBytes (record { tag = 31; value = [] } ∷ closing ∷ [])) ≡ line 99 0 0 ∷ []
   pub day-refused : dayLines siteFileO script ≡ line 6 0 0 ∷ []
   pub day-empty : dayLines siteFile [] ≡ []
+  -- I by script: start 1, tick 3
+  pub day-start : dayLines siteFile (fieldsBytes (
+      record { tag = 32; value = 200 ∷ 2 ∷ 0 ∷ 4 ∷ 0 ∷ 4 ∷ [] } ∷ record { tag = 34; value = 7 ∷ 0 ∷ 1 ∷ 0 ∷ 3 ∷ 0 ∷ 4 ∷ [] } ∷ []))
+      ≡ line 0 1 0 ∷ line 0 1 9 ∷ []
+  -- a closure after the grant: the light is of an older edition
+  pub day-stale : dayLines siteFile (fieldsBytes (closing ∷ routing ∷ record { tag = 32; value = 201 ∷ 0 ∷ 0 ∷ 12 ∷ 0 ∷ 12 ∷ [] } ∷ posting ∷ []))
+      ≡ line 0 1 0 ∷ line 0 1 10 ∷ line 0 2 0 ∷ line 16 2 0 ∷ []
+  -- other lengths
+  pub day-close-5 : dayLines siteFile (sized 32 5) ≡ line 99 0 0 ∷ []
+  pub day-close-7 : dayLines siteFile (sized 32 7) ≡ line 99 0 0 ∷ []
+  pub day-withdraw-0 : dayLines siteFile (sized 33 0) ≡ line 99 0 0 ∷ []
+  pub day-withdraw-2 : dayLines siteFile (sized 33 2) ≡ line 99 0 0 ∷ []
+  pub day-route-6 : dayLines siteFile (sized 34 6) ≡ line 99 0 0 ∷ []
+  pub day-route-8 : dayLines siteFile (sized 34 8) ≡ line 99 0 0 ∷ []
+  pub day-post-1 : dayLines siteFile (sized 35 1) ≡ line 99 0 0 ∷ []

@@ -1,0 +1,535 @@
+-- The lists of refusals say what the paper says, number by number, and free and standing mean what they mean of a byte.
+-- Assumes nothing.
+use Prim.Native.Nat.{ℕ, suc, _+_, _*_, _-_, _≤_, _<_}
+use native.Mathlib.Omega.{arith}
+use mathlib.Core.Path.{_≡_, refl, sym, ap, ap₂, _∙_}
+use mathlib.Core.Bool.{Bool, true, false, not, false≢true, true≢false}
+use mathlib.Core.Option.{some}
+use mathlib.Core.List.{List, [], _∷_}
+use lib.Dec.{leb, ltb, eqb}
+use borrow.Author.Tests.{leb-true, le-leb, ltb-true, lt-ltb, eqb-true, eq-eqb, not-true, not-false}
+use lib.ListN.{length, getD, drop, length-drop}
+use lib.Seq.{getD-drop}
+use Rattle.meaning.specs.Limits.{header}
+use Rattle.meaning.specs.Basics.{every, any, all, Each, Some, Bytes, isNone}
+use Rattle.meaning.specs.Answers.{_if_}
+use Rattle.meaning.specs.Site.{Site, stateAt}
+use Rattle.meaning.specs.Board.{Free, free, stands, isTug, isClosure, isHolder, boardLength, place, byteAt, Pair, runTo, allFree}
+use Rattle.meaning.specs.Plan.{Step, wait, move, Node, planEnd, planPairs}
+use Rattle.meaning.specs.Reach.{findRoute}
+use Rattle.meaning.specs.Light.{Light, startOf, goalOf, lightOf, isLight, decode}
+use Rattle.meaning.specs.Calls.{Call, route, audit, post, close, withdraw, PublicCall, opening, interval, listed, View, bytesView, Room, startNamed, runNamed, stepNamed, lightNamed, isAt, lightRoom, wordsNeeded, lightValid, routeRefusals, lightRefusals, closeRefusals, withdrawRefusals, callRefusals, intervalRefusals, Lent, roomOf, laterRefusals}
+use Rattle.meaning.specs.PlainBoard.{Entry, Plain, hasPair, taken, plainFree, hasEntry, plainView}
+use Rattle.meaning.specs.ValidPlans.{Valid, Reached}
+use Rattle.meaning.specs.WellFormed.{WellFormed}
+use Rattle.meaning.specs.Refusals.{_says_, Told, Says, Not, Tug, Closure, Holder, HasByte, Stands, StepKnown, Sight, bytesSight, HasEntry, InEntry, InNone, plainSight, StartKnown, RunKnown, LightKnown, LightBytes, RouteRoom, callPaper, lightPaper, publicPaper, LightGiven, GivenBytes, CloseAccepted, LightAccepted, WithdrawAccepted, RouteAccepted, CallAccepted, BytesRight, PlainRight}
+use Rattle.meaning.proofs.BasicsLaws.{decide, every-at, every-nil, every-cons, options, any-at, any-from, some-any, any-some, all-at, all-each, each-all, allFrom-in, allFrom-true}
+use Rattle.meaning.proofs.HolderLaws.{holders-right}
+use Rattle.meaning.proofs.LightLaws.{lights-right, decode-some, light-decode}
+use Rattle.meaning.proofs.PlanLaws.{plan-valid, valid-plan, held-pairs, run-free}
+use Rattle.meaning.proofs.TraceLaws.{search-right}
+use Rattle.meaning.proofs.BoardLaws.{place-in, pair-at}
+use Rattle.meaning.proofs.AnswersLaws.{Passed, rise-none, call-rise, lowest-clear}
+use Rattle.meaning.proofs.ListLaws.{light-free}
+
+-- ---- tests and sentences
+
+-- a test that holds exactly where a sentence does
+pub record Tells (b : Bool) (P : Type 0) : Type 0 where
+  pub then : b ≡ true → P
+  pub back : P → b ≡ true
+
+-- its negation
+pub tells-not : {b : Bool} {P : Type 0} → Tells b P → Tells (not b) (Not P)
+tells-not {b} e = record {
+  then = λ n p. false≢true (sym (not-true b n) ∙ e .back p);
+  back = λ n. decide b (λ h. absurd (n (e .then h))) (λ h. ap not h);
+}
+
+-- a test that did not apply, and one that did not apply negated
+misses : {b : Bool} {P : Type 0} → Tells b P → b ≡ false → Not P
+misses e h p = true≢false (sym (e .back p) ∙ h)
+
+holds : {b : Bool} {P : Type 0} → Tells b P → not b ≡ false → P
+holds {b} e h = e .then (not-false b h)
+
+fails : {b : Bool} {P : Type 0} → Tells b P → Not P → b ≡ false
+fails {b} e n = decide b (λ h. absurd (n (e .then h))) (λ h. h)
+
+-- one entry
+pub told : (n : ℕ) {b : Bool} {P : Type 0} → Tells b P → Told (n if b) (n says P)
+told n e = record { same-number = refl; only-there = e .then; there = e .back }
+
+tells-le : (a b : ℕ) → Tells (leb a b) (a ≤ b)
+tells-le a b = record { then = leb-true a b; back = le-leb a b }
+
+tells-lt : (a b : ℕ) → Tells (ltb a b) (a < b)
+tells-lt a b = record { then = ltb-true a b; back = lt-ltb a b }
+
+tells-eq : (a b : ℕ) → Tells (eqb a b) (a ≡ b)
+tells-eq a b = record { then = eqb-true a b; back = eq-eqb a b }
+
+tells-two : {a b : Bool} {P Q : Type 0} → Tells a P → Tells b Q → Tells (every (a ∷ b ∷ [])) (P × Q)
+tells-two p q = record {
+  then = λ h. (p .then (every-at _ h 0), q .then (every-at _ h 1));
+  back = λ (x, y). every-cons _ _ (p .back x) (every-cons _ _ (q .back y) every-nil);
+}
+
+tells-three : {a b c : Bool} {P Q R : Type 0} → Tells a P → Tells b Q → Tells c R → Tells (every (a ∷ b ∷ c ∷ [])) (P × Q × R)
+tells-three p q r = record {
+  then = λ h. (p .then (every-at _ h 0), q .then (every-at _ h 1), r .then (every-at _ h 2));
+  back = λ (x, y, z). every-cons _ _ (p .back x) (every-cons _ _ (q .back y) (every-cons _ _ (r .back z) every-nil));
+}
+
+tells-four : {a b c d : Bool} {P Q R S : Type 0} → Tells a P → Tells b Q → Tells c R → Tells d S → Tells (every (a ∷ b ∷ c ∷ d ∷ [])) (P × Q × R × S)
+tells-four p q r s = record {
+  then = λ h. (p .then (every-at _ h 0), q .then (every-at _ h 1), r .then (every-at _ h 2), s .then (every-at _ h 3));
+  back = λ (x, y, z, w). every-cons _ _ (p .back x) (every-cons _ _ (q .back y) (every-cons _ _ (r .back z) (every-cons _ _ (s .back w) every-nil)));
+}
+
+-- ---- holders
+
+tells-tug : (h : ℕ) → Tells (isTug h) (Tug h)
+tells-tug h = record { then = holders-right .tugs h; back = λ (lo, hi). holders-right .all-tugs h lo hi }
+
+tells-closure : (h : ℕ) → Tells (isClosure h) (Closure h)
+tells-closure h = record { then = holders-right .closures h; back = λ (lo, hi). holders-right .all-closures h lo hi }
+
+tells-holder : (h : ℕ) → Tells (isHolder h) (Holder h)
+tells-holder h = record { then = holders-right .holders h; back = λ (lo, hi). holders-right .all-holders h lo hi }
+
+-- ---- bytes of a board
+
+module _ (site : Site) (board : List ℕ) where
+  tells-free : (c t : ℕ) → Tells (free site board c t) (HasByte site board 0 c t)
+  unfolding free
+  tells-free c t = tells-three (tells-lt c (site .cells)) (tells-le t (site .horizon)) (tells-eq (byteAt site board c t) 0)
+
+  module _ (size : length board ≡ boardLength site) where
+    carried : (h : ℕ) → any (λ (b : ℕ). eqb b h) (drop header board) ≡ true → (c : ℕ) × (t : ℕ) × HasByte site board h c t
+    carried h e =
+        let (i, lt, found) = any-at (λ (b : ℕ). eqb b h) (drop header board) 0 e in
+        let rest : length (drop header board) ≡ length board - header = length-drop header board in
+        let (c, t, hc, ht, there) = pair-at site i (omega arith) in
+        (c, t, (hc, ht, ap (λ (j : ℕ). getD board j 0) there ∙ sym (getD-drop header board i 0) ∙ eqb-true _ _ found))
+
+    all-carried : (h c t : ℕ) → HasByte site board h c t → any (λ (b : ℕ). eqb b h) (drop header board) ≡ true
+    all-carried h c t (hc, ht, e) =
+        let i : ℕ = c * (site .horizon + 1) + t in
+        let inside : place site c t < boardLength site = place-in site c t hc ht in
+        let there : header + i ≡ place site c t = omega arith in
+        let rest : length (drop header board) ≡ length board - header = length-drop header board in
+        any-from (λ (b : ℕ). eqb b h) (drop header board) 0 i (omega arith)
+        (eq-eqb _ h (getD-drop header board i 0 ∙ ap (λ (j : ℕ). getD board j 0) there ∙ e))
+
+    tells-stands : (h : ℕ) → Tells (stands board h) (Stands site board h)
+    unfolding stands
+    tells-stands h = tells-two (tells-holder h) (record { then = carried h; back = λ (c, t, e). all-carried h c t e })
+
+pub bytes-right : BytesRight
+bytes-right = record {
+  free-pairs = λ site board c t. tells-free site board c t .then;
+  all-free-pairs = λ site board c t. tells-free site board c t .back;
+  standing = λ site board size h. tells-stands site board size h .then;
+  all-standing = λ site board size h. tells-stands site board size h .back;
+}
+
+-- ---- 10, 14, 17 and 18
+
+-- the test of a light decides whether its plan is valid and ends at its goal and arrival
+module _ (site : Site) (f : Free) (x : Light) where
+  pub valid-light : Valid site f (startOf x) (x .steps) (goalOf x) → lightValid site f x ≡ true
+  unfolding lightValid
+  valid-light v =
+      ap (isAt (x .goal) (x .arrival)) (valid-plan site f (startOf x) (x .steps) (goalOf x) v)
+      ∙ every-cons _ _ (eq-eqb (x .goal) (x .goal) refl) (every-cons _ _ (eq-eqb (x .arrival) (x .arrival) refl) every-nil)
+
+  pub light-valid : lightValid site f x ≡ true → Valid site f (startOf x) (x .steps) (goalOf x)
+  unfolding lightValid
+  light-valid h =
+      options (planEnd site f (startOf x) (x .steps))
+      (λ e. absurd (false≢true (sym (ap (isAt (x .goal) (x .arrival)) e) ∙ h)))
+      (λ b e.
+      let at-goal : isAt (x .goal) (x .arrival) (some b) ≡ true = sym (ap (isAt (x .goal) (x .arrival)) e) ∙ h in
+      let same-state : b .state ≡ x .goal = eqb-true _ _ (every-at _ at-goal 0) in
+      let same-tick : b .tick ≡ x .arrival = eqb-true _ _ (every-at _ at-goal 1) in
+      let same : b ≡ goalOf x = (λ i. record { state = same-state i; tick = same-tick i }) in
+      plan-valid site f (startOf x) (x .steps) (goalOf x) (e ∙ ap (λ (n : Node). some n) same))
+
+module _ (site : Site) where
+  tells-start : (a : Node) (goal : ℕ) → Tells (startNamed site a goal) (StartKnown site a goal)
+  unfolding startNamed
+  tells-start a goal = tells-three (tells-lt _ _) (tells-le _ _) (tells-lt _ _)
+
+  tells-run : (cell first last : ℕ) → Tells (runNamed site cell first last) (RunKnown site cell first last)
+  unfolding runNamed
+  tells-run cell first last = tells-four (tells-lt _ _) (tells-le _ _) (tells-le _ _) (tells-le _ _)
+
+  tells-step : (p : Step) → Tells (stepNamed site p) (StepKnown site p)
+  tells-step (wait n) = record { then = λ e. tt; back = λ u. refl }
+  tells-step (move m) = tells-lt m (length (site .motions))
+
+  tells-steps : (ps : List Step) → Tells (all (stepNamed site) ps) (Each (StepKnown site) ps)
+  tells-steps ps = record {
+    then = all-each (StepKnown site) (stepNamed site) (λ p. tells-step p .then) ps;
+    back = each-all (StepKnown site) (stepNamed site) (λ p. tells-step p .back) ps;
+  }
+
+  tells-light : (x : Light) → Tells (lightNamed site x) (LightKnown site x)
+  unfolding lightNamed
+  tells-light x =
+      let parts : _ = tells-three (tells-start (startOf x) (x .goal)) (tells-le (x .arrival) (site .horizon)) (tells-steps (x .steps)) in
+      record {
+        then = λ h. (let ((s, t, g), a, ps) = parts .then h in (s, t, g, a, ps));
+        back = λ (s, t, g, a, ps). parts .back ((s, t, g), a, ps);
+      }
+
+  tells-valid : (f : Free) (x : Light) → Tells (lightValid site f x) (Valid site f (startOf x) (x .steps) (goalOf x))
+  tells-valid f x = record { then = light-valid site f x; back = valid-light site f x }
+
+  tells-run-free : (f : Free) (Unheld : ℕ → ℕ → Type 0) → ((c t : ℕ) → Tells (f c t) (Unheld c t)) → (cell first last : ℕ)
+      → Tells (allFree f (runTo cell first last)) ((t : ℕ) → first ≤ t → t ≤ last → Unheld cell t)
+  tells-run-free f Unheld unheld cell first last =
+      let same : _ = run-free f cell first (suc last - first) in
+      record {
+        then = λ h t lo hi. unheld cell t .then (allFrom-in (f cell) first (suc last - first) t (sym same ∙ h) lo (omega arith));
+        back = λ h. same ∙ allFrom-true (f cell) first (suc last - first) (λ t lo hi. unheld cell t .back (h t lo (omega arith)));
+      }
+
+  tells-none : WellFormed site → (f : Free) (a : Node) (goal : ℕ)
+      → Tells (isNone (findRoute site f a goal)) ((t : ℕ) → Not (Reached site f a (record { state = goal; tick = t })))
+  tells-none well f a goal =
+      options (findRoute site f a goal)
+      (λ e. record { then = λ h t reached. search-right .found site well f a goal t reached e; back = λ never. ap isNone e })
+      (λ r e. record {
+        then = λ h. absurd (false≢true (sym (ap isNone e) ∙ h));
+        back = λ never. absurd (never (r .arrival) (search-right .earliest site well f a goal r e .reached));
+      })
+
+-- ---- 8
+
+tells-is-light : (light : List ℕ) → Bytes light → Tells (isLight light) ((y : Light) × LightBytes light y)
+tells-is-light light bytes = record {
+  then = λ h.
+      let (keeps, same) = lights-right .only-those light (lightOf light) bytes (light-decode light h) in
+      (lightOf light, (keeps, same));
+  back = λ (y, (keeps, same)). decode-some light y (ap decode (sym same) ∙ lights-right .read-back y keeps) .0;
+}
+
+-- ---- what calls see, as tests and in words
+
+-- the tests of a view say what the words of a sight say
+pub record Sees (v : View) (s : Sight) : Type 0 where
+  pub same-edition : v .edition ≡ s .edition
+  pub same-free : v .free ≡ s .free
+  pub standing : (h : ℕ) → Tells (v .stands h) (s .Standing h)
+  pub unheld : (c t : ℕ) → Tells (s .free c t) (s .Unheld c t)
+
+pub bytes-seen : (site : Site) (board : List ℕ) → length board ≡ boardLength site → Sees (bytesView site board) (bytesSight site board)
+unfolding bytesView
+bytes-seen site board size = record {
+  same-edition = refl;
+  same-free = refl;
+  standing = tells-stands site board size;
+  unheld = tells-free site board;
+}
+
+tells-pair : (ps : List Pair) (c t : ℕ) → Tells (hasPair ps c t) (Some (λ (p : Pair). (p .cell ≡ c) × (p .tick ≡ t)) ps)
+tells-pair ps c t = record {
+  then = any-some (λ (p : Pair). (p .cell ≡ c) × (p .tick ≡ t)) (λ (p : Pair). every (eqb (p .cell) c ∷ eqb (p .tick) t ∷ [])) (λ p. tells-two (tells-eq (p .cell) c) (tells-eq (p .tick) t) .then) ps;
+  back = some-any (λ (p : Pair). (p .cell ≡ c) × (p .tick ≡ t)) (λ (p : Pair). every (eqb (p .cell) c ∷ eqb (p .tick) t ∷ [])) (λ p. tells-two (tells-eq (p .cell) c) (tells-eq (p .tick) t) .back);
+}
+
+tells-taken : (es : List Entry) (c t : ℕ) → Tells (taken es c t) (InEntry es c t)
+tells-taken es c t = record {
+  then = any-some (λ (e : Entry). Some (λ (p : Pair). (p .cell ≡ c) × (p .tick ≡ t)) (e .pairs)) (λ (e : Entry). hasPair (e .pairs) c t) (λ e. tells-pair (e .pairs) c t .then) es;
+  back = some-any (λ (e : Entry). Some (λ (p : Pair). (p .cell ≡ c) × (p .tick ≡ t)) (e .pairs)) (λ (e : Entry). hasPair (e .pairs) c t) (λ e. tells-pair (e .pairs) c t .back);
+}
+
+tells-entry : (es : List Entry) (h : ℕ) → Tells (hasEntry es h) (HasEntry es h)
+tells-entry es h = record {
+  then = any-some (λ (e : Entry). e .holder ≡ h) (λ (e : Entry). eqb (e .holder) h) (λ e. tells-eq (e .holder) h .then) es;
+  back = some-any (λ (e : Entry). e .holder ≡ h) (λ (e : Entry). eqb (e .holder) h) (λ e. tells-eq (e .holder) h .back);
+}
+
+tells-plain-free : (site : Site) (es : List Entry) (c t : ℕ) → Tells (plainFree site es c t) (InNone site es c t)
+unfolding plainFree
+tells-plain-free site es c t = tells-three (tells-lt c (site .cells)) (tells-le t (site .horizon)) (tells-not (tells-taken es c t))
+
+pub plain-seen : (site : Site) (p : Plain) → Sees (plainView site p) (plainSight site p)
+unfolding plainView
+plain-seen site p = record {
+  same-edition = refl;
+  same-free = refl;
+  standing = tells-entry (p .entries);
+  unheld = tells-plain-free site (p .entries);
+}
+
+-- ---- the lists
+
+module _ (site : Site) (well : WellFormed site) (v : View) (s : Sight) (sees : Sees v s) where
+  tells-edition : Tells (eqb (v .edition) 4294967295) (s .edition ≡ 4294967295)
+  tells-edition = rw (sees .same-edition) (tells-eq (s .edition) 4294967295)
+
+  tells-same : (x : Light) → Tells (eqb (x .edition) (v .edition)) (x .edition ≡ s .edition)
+  tells-same x = rw (sees .same-edition) (tells-eq (x .edition) (s .edition))
+
+  tells-plan : (x : Light) → Tells (lightValid site (v .free) x) (Valid site (s .free) (startOf x) (x .steps) (goalOf x))
+  tells-plan x = rw (sees .same-free) (tells-valid site (s .free) x)
+
+  tells-no-route : (a : Node) (goal : ℕ)
+      → Tells (isNone (findRoute site (v .free) a goal)) ((t : ℕ) → Not (Reached site (s .free) a (record { state = goal; tick = t })))
+  tells-no-route a goal = rw (sees .same-free) (tells-none site well (s .free) a goal)
+
+  tells-open : (cell first last : ℕ) → Tells (allFree (v .free) (runTo cell first last)) ((t : ℕ) → first ≤ t → t ≤ last → s .Unheld cell t)
+  tells-open cell first last = rw (sees .same-free) (tells-run-free site (s .free) (s .Unheld) (sees .unheld) cell first last)
+
+  tells-room : (room : Room) → Tells (every (leb (lightRoom site) (room .out) ∷ leb (wordsNeeded site) (room .words) ∷ [])) (RouteRoom site room)
+  tells-room room = tells-two (tells-le (16 + 5 * site .horizon) (room .out)) (tells-le (length (site .states) * (site .horizon + 1)) (room .words))
+
+  tells-stand : (n : ℕ) → Tells (eqb (stateAt site n .speed) 0) (stateAt site n .speed ≡ 0)
+  tells-stand n = tells-eq (stateAt site n .speed) 0
+
+  light-says : (light : List ℕ) → Bytes light → Says (lightRefusals site v light) (lightPaper site s light (lightOf light))
+  unfolding lightRefusals
+  light-says light bytes =
+      let x : Light = lightOf light in (
+        told 8 (tells-not (tells-is-light light bytes)),
+        (
+          told 9 (tells-not (tells-tug (x .tug))),
+          (
+            told 10 (tells-not (tells-light site x)),
+            (
+              told 11 (tells-not (tells-stand (x .goal))),
+              (
+                told 12 (sees .standing (x .tug)),
+                (
+                  told 15 tells-edition,
+                  (
+                    told 16 (tells-not (tells-same x)),
+                    (told 17 (tells-not (tells-plan x)), tt),
+                  ),
+                ),
+              ),
+            ),
+          ),
+        ),
+      )
+
+  pub call-says : (room : Room) (c : Call) → LightGiven c → Says (callRefusals site v room c) (callPaper site s room c)
+  unfolding routeRefusals closeRefusals withdrawRefusals
+  call-says room (route tug a goal) given = (
+    told 9 (tells-not (tells-tug tug)),
+    (
+      told 10 (tells-not (tells-start site a goal)),
+      (
+        told 11 (tells-not (tells-stand goal)),
+        (
+          told 12 (sees .standing tug),
+          (
+            told 14 (tells-not (tells-room room)),
+            (told 18 (tells-no-route a goal), tt),
+          ),
+        ),
+      ),
+    ),
+  )
+  call-says room (audit light) given = light-says light given
+  call-says room (post light) given = light-says light given
+  call-says room (close h cell first last) given = (
+    told 9 (tells-not (tells-closure h)),
+    (
+      told 10 (tells-not (tells-run site cell first last)),
+      (
+        told 12 (sees .standing h),
+        (
+          told 15 tells-edition,
+          (told 17 (tells-not (tells-open cell first last)), tt),
+        ),
+      ),
+    ),
+  )
+  call-says room (withdraw h) given = (
+    told 9 (tells-not (tells-holder h)),
+    (
+      told 13 (tells-not (sees .standing h)),
+      (told 15 tells-edition, tt),
+    ),
+  )
+
+  -- ---- accepted
+
+  below : s .edition ≤ 4294967295 → eqb (v .edition) 4294967295 ≡ false → s .edition < 4294967295
+  below most e = let other : s .edition ≡ 4294967295 → ⊥ = misses tells-edition e in omega arith
+
+  not-last : s .edition < 4294967295 → eqb (v .edition) 4294967295 ≡ false
+  not-last lt = fails tells-edition (λ e. omega arith)
+
+  pub close-accepted : s .edition ≤ 4294967295 → (h cell first last : ℕ) → Each Passed (closeRefusals site v h cell first last)
+      → CloseAccepted site s h cell first last
+  unfolding closeRefusals
+  close-accepted most h cell first last (h9, (h10, (h12, (h15, (h17, rest))))) = record {
+    holder = holds (tells-closure h) h9;
+    known = holds (tells-run site cell first last) h10;
+    new = misses (sees .standing h) h12;
+    below = below most h15;
+    unheld = holds (tells-open cell first last) h17;
+  }
+
+  accepted-close : (h cell first last : ℕ) → CloseAccepted site s h cell first last → Each Passed (closeRefusals site v h cell first last)
+  unfolding closeRefusals
+  accepted-close h cell first last a = (
+    ap not (tells-closure h .back (a .holder)),
+    (
+      ap not (tells-run site cell first last .back (a .known)),
+      (
+        fails (sees .standing h) (a .new),
+        (
+          not-last (a .below),
+          (ap not (tells-open cell first last .back (a .unheld)), tt),
+        ),
+      ),
+    ),
+  )
+
+  pub withdraw-accepted : s .edition ≤ 4294967295 → (h : ℕ) → Each Passed (withdrawRefusals v h) → WithdrawAccepted site s h
+  unfolding withdrawRefusals
+  withdraw-accepted most h (h9, (h13, (h15, rest))) = record {
+    holder = holds (tells-holder h) h9;
+    there = holds (sees .standing h) h13;
+    below = below most h15;
+  }
+
+  accepted-withdraw : (h : ℕ) → WithdrawAccepted site s h → Each Passed (withdrawRefusals v h)
+  unfolding withdrawRefusals
+  accepted-withdraw h a =
+      (ap not (tells-holder h .back (a .holder)), (ap not (sees .standing h .back (a .there)), (not-last (a .below), tt)))
+
+  pair-free : (f : Free) (ps : List Pair) (c t : ℕ) → allFree f ps ≡ true → hasPair ps c t ≡ true → f c t ≡ true
+  pair-free f ps c t h k =
+      let origin : Pair = record { cell = 0; tick = 0 } in
+      let (i, lt, e) = any-at (λ (p : Pair). every (eqb (p .cell) c ∷ eqb (p .tick) t ∷ [])) ps origin k in
+      let here : f (getD ps i origin .cell) (getD ps i origin .tick) ≡ true = all-at (λ (p : Pair). f (p .cell) (p .tick)) ps origin h i lt in
+      sym (ap₂ f (eqb-true _ _ (every-at _ e 0)) (eqb-true _ _ (every-at _ e 1))) ∙ here
+
+  pub light-accepted : s .edition ≤ 4294967295 → (light : List ℕ) → Each Passed (lightRefusals site v light) → LightAccepted site s (lightOf light)
+  unfolding lightRefusals
+  light-accepted most light (h8, (h9, (h10, (h11, (h12, (h15, (h16, (h17, rest)))))))) =
+      let x : Light = lightOf light in
+      let all-free : allFree (s .free) (planPairs site (startOf x) (x .steps)) ≡ true =
+      ap (λ (f : Free). allFree f (planPairs site (startOf x) (x .steps))) (sym (sees .same-free)) ∙ light-free site (v .free) x (not-false _ h17) in
+      record {
+        same-edition = holds (tells-same x) h16;
+        holder = holds (tells-tug (x .tug)) h9;
+        known = holds (tells-light site x) h10;
+        goal-stands = holds (tells-stand (x .goal)) h11;
+        new = misses (sees .standing (x .tug)) h12;
+        below = below most h15;
+        unheld = λ c t held. sees .unheld c t .then (pair-free (s .free) (planPairs site (startOf x) (x .steps)) c t all-free (held-pairs site (startOf x) (x .steps) c t held));
+        valid = holds (tells-plan x) h17;
+      }
+
+  -- bytes that are a light's are read as that light
+  read-light : (light : List ℕ) (x : Light) → LightBytes light x → (isLight light ≡ true) × (lightOf light ≡ x)
+  read-light light x (keeps, same) = decode-some light x (ap decode (sym same) ∙ lights-right .read-back x keeps)
+
+  accepted-light : (light : List ℕ) (x : Light) → LightBytes light x → LightAccepted site s x → Each Passed (lightRefusals site v light)
+  unfolding lightRefusals
+  accepted-light light x bytes a =
+      let (is-light, same) = read-light light x bytes in
+      rw same (
+        ap not is-light,
+        (
+          ap not (tells-tug (x .tug) .back (a .holder)),
+          (
+            ap not (tells-light site x .back (a .known)),
+            (
+              ap not (tells-stand (x .goal) .back (a .goal-stands)),
+              (
+                fails (sees .standing (x .tug)) (a .new),
+                (
+                  not-last (a .below),
+                  (
+                    ap not (tells-same x .back (a .same-edition)),
+                    (ap not (tells-plan x .back (a .valid)), tt),
+                  ),
+                ),
+              ),
+            ),
+          ),
+        ),
+      )
+
+  pub route-accepted : (room : Room) (tug : ℕ) (a : Node) (goal : ℕ) → Each Passed (routeRefusals site v room tug a goal) → RouteAccepted site s room tug a goal
+  unfolding routeRefusals
+  route-accepted room tug a goal (h9, (h10, (h11, (h12, (h14, (h18, rest)))))) = record {
+    holder = holds (tells-tug tug) h9;
+    known = holds (tells-start site a goal) h10;
+    goal-stands = holds (tells-stand goal) h11;
+    new = misses (sees .standing tug) h12;
+    room-enough = holds (tells-room room) h14;
+    reached = options (findRoute site (v .free) a goal)
+        (λ e. absurd (true≢false (sym (ap isNone e) ∙ h18)))
+        (λ r e. (r .arrival, search-right .earliest site well (s .free) a goal r (ap (λ (f : Free). findRoute site f a goal) (sym (sees .same-free)) ∙ e) .reached));
+  }
+
+  accepted-route : (room : Room) (tug : ℕ) (a : Node) (goal : ℕ) → RouteAccepted site s room tug a goal → Each Passed (routeRefusals site v room tug a goal)
+  unfolding routeRefusals
+  accepted-route room tug a goal x = (
+    ap not (tells-tug tug .back (x .holder)),
+    (
+      ap not (tells-start site a goal .back (x .known)),
+      (
+        ap not (tells-stand goal .back (x .goal-stands)),
+        (
+          fails (sees .standing tug) (x .new),
+          (
+            ap not (tells-room room .back (x .room-enough)),
+            (fails (tells-no-route a goal) (λ never. (let (t, reached) = x .reached in never t reached)), tt),
+          ),
+        ),
+      ),
+    ),
+  )
+
+  pub call-accepted : s .edition ≤ 4294967295 → (room : Room) (c : Call) → LightGiven c → Each Passed (callRefusals site v room c) → CallAccepted site s room c
+  unfolding lightRefusals
+  call-accepted most room (route tug a goal) given h = route-accepted room tug a goal h
+  call-accepted most room (audit light) given h =
+      (lightOf light, lights-right .only-those light (lightOf light) given (light-decode light (not-false _ (h .0))), light-accepted most light h)
+  call-accepted most room (post light) given h =
+      (lightOf light, lights-right .only-those light (lightOf light) given (light-decode light (not-false _ (h .0))), light-accepted most light h)
+  call-accepted most room (close k cell first last) given h = close-accepted most k cell first last h
+  call-accepted most room (withdraw k) given h = withdraw-accepted most k h
+
+  pub accepted-call : (room : Room) (c : Call) → CallAccepted site s room c → Each Passed (callRefusals site v room c)
+  accepted-call room (route tug a goal) x = accepted-route room tug a goal x
+  accepted-call room (audit light) (x, bytes, a) = accepted-light light x bytes a
+  accepted-call room (post light) (x, bytes, a) = accepted-light light x bytes a
+  accepted-call room (close k cell first last) x = accepted-close k cell first last x
+  accepted-call room (withdraw k) x = accepted-withdraw k x
+
+pub later-says : (site : Site) → WellFormed site → (l : Lent) → length (l .board) ≡ boardLength site
+    → (q : PublicCall) → GivenBytes q → Says (laterRefusals site l q) (publicPaper site l q)
+unfolding intervalRefusals
+later-says site well l size opening given = tt
+later-says site well l size (interval cell) given = (
+  told 10 (tells-not (tells-lt cell (site .cells))),
+  (told 14 (tells-not (tells-le (site .horizon + 2) (length (l .out)))), tt),
+)
+later-says site well l size (listed c) given =
+    call-says site well (bytesView site (l .board)) (bytesSight site (l .board)) (bytes-seen site (l .board) size) (roomOf l) c given
+
+-- ---- the plain board
+
+pub plain-right : PlainRight
+plain-right = record {
+  say = λ site well p room c given. call-says site well (plainView site p) (plainSight site p) (plain-seen site p) room c given;
+  free-pairs = λ site es c t. tells-plain-free site es c t .then;
+  all-free-pairs = λ site es c t. tells-plain-free site es c t .back;
+  accepts = λ site well p most room c given e.
+      call-accepted site well (plainView site p) (plainSight site p) (plain-seen site p) most room c given
+      (rise-none 7 (callRefusals site (plainView site p) room c) (call-rise site (plainView site p) room c) e);
+  all-accepted = λ site well p room c x.
+      lowest-clear (callRefusals site (plainView site p) room c) (accepted-call site well (plainView site p) (plainSight site p) (plain-seen site p) room c x);
+}
