@@ -4,6 +4,7 @@
 use Prim.Native.Nat.{ℕ, zero, suc}
 use mathlib.Core.Path.{_≡_, refl, sym, ap, ap₂, _∙_, subst}
 use mathlib.Core.List.{List, [], _∷_}
+use contract.Lifetimes.{Lfts}
 use denote.Ref.{RefT}
 use Rattle.meaning.specs.Answers.{lowest}
 use Rattle.meaning.specs.Site.{siteOf}
@@ -27,17 +28,17 @@ module _ (file board out words : List ℕ) where
       ap₂ (λ (m : ℕ) (b : List ℕ). boardDone m b out words) answered leaves ∙ sym (board-alone file board out words q alone)
 
   -- an audit never writes the board
-  pub audit-exact : (light : List ℕ) (n : ℕ) → n ≡ meant file (onBoard board) (listed (audit light)) .number
-      → boardDone n board out words ≡ meant file (lends board out words) (listed (audit light))
-  audit-exact light n answered =
-      board-exact board (listed (audit light)) tt n answered
-      (sym (ap (λ (m : Lent). m .board) (demands .first .audited file (onBoard board) light _ refl .1)))
+  pub audit-exact : (kept light : List ℕ) → kept ≡ board → (n : ℕ) → n ≡ meant file (onBoard board) (listed (audit light)) .number
+      → boardDone n kept out words ≡ meant file (lends board out words) (listed (audit light))
+  audit-exact kept light stays n answered =
+      board-exact kept (listed (audit light)) tt n answered
+      (stays ∙ sym (ap (λ (m : Lent). m .board) (demands .first .audited file (onBoard board) light _ refl .1)))
 
-  pub interval-exact : (cell n : ℕ) (values left : List ℕ) → n ≡ meant file (lends board out []) (interval cell) .number
+  pub interval-exact : (kept : List ℕ) → kept ≡ board → (cell n : ℕ) (values left : List ℕ) → n ≡ meant file (lends board out []) (interval cell) .number
       → values ≡ meant file (lends board out []) (interval cell) .values → left ≡ meant file (lends board out []) (interval cell) .lent .out
-      → record { number = n; values = values; lent = lends board left words } ≡ meant file (lends board out words) (interval cell)
-  interval-exact cell n values left same-number same-values leaves =
-      (λ i. record { number = same-number i; values = same-values i; lent = lends board (leaves i) words })
+      → record { number = n; values = values; lent = lends kept left words } ≡ meant file (lends board out words) (interval cell)
+  interval-exact kept stays cell n values left same-number same-values leaves =
+      (λ i. record { number = same-number i; values = same-values i; lent = lends (stays i) (leaves i) words })
       ∙ sym (interval-alone file board out words cell)
 
 module _ (file : List ℕ) (l : Lent) (tug : ℕ) (a : Node) (goal : ℕ) where
@@ -54,13 +55,19 @@ module _ (file : List ℕ) (l : Lent) (tug : ℕ) (a : Node) (goal : ℕ) where
       by-number (suc n) e =
           sym (ap (λ (d : Done). d .lent .board) (meant-by file l (listed (route tug a goal)) (suc n) e) ∙ done-board (siteOf file) l (route tug a goal) (suc n))
 
-  pub route-exact : (n : ℕ) (values out words : List ℕ) → n ≡ routed .number → values ≡ routed .values → out ≡ routed .lent .out → words ≡ routed .lent .words
-      → record { number = n; values = values; lent = lends (l .board) out words } ≡ routed
-  route-exact n values out words same-number same-values leaves clears =
-      let keeps = route-keeps in
+  pub route-exact : (kept : List ℕ) → kept ≡ l .board
+      → (n : ℕ) (values out words : List ℕ) → n ≡ routed .number → values ≡ routed .values → out ≡ routed .lent .out → words ≡ routed .lent .words
+      → record { number = n; values = values; lent = lends kept out words } ≡ routed
+  route-exact kept stays n values out words same-number same-values leaves clears =
+      let keeps = stays ∙ route-keeps in
       (λ i. record { number = same-number i; values = same-values i; lent = lends (keeps i) (leaves i) (clears i) })
 
 -- ---- a run of every list
+
+-- lifetimes of a call's references; the claims hold of any
+abbrev pub lifetimes : (n : ℕ) → Lfts n
+lifetimes zero = tt
+lifetimes (suc n) = ([], lifetimes n)
 
 -- a list, lent
 abbrev pub lend : List ℕ → RefT (List ℕ)

@@ -11,6 +11,7 @@ ghost use Rattle.answers.specs.Answers.{answerOf, countedOf};
 pub fn open(file: &[u8], board: &mut [u8]) -> Answer
     ensures { λ r. ⌜ r ≡ answerOf (meant (now (file .entry)) (onBoard (now (board .entry))) opening .number) ⌝ }
     ensures { λ _. ⌜ now (board .exit) ≡ meant (now (file .entry)) (onBoard (now (board .entry))) opening .lent .board ⌝ }
+    ensures { λ _. ⌜ now (file .exit) ≡ now (file .entry) ⌝ }
 {
     match calls::check_board(file, board) {
         Check::Passed(_) => {
@@ -25,6 +26,8 @@ pub fn open(file: &[u8], board: &mut [u8]) -> Answer
 pub fn interval(file: &[u8], board: &[u8], cell: u16, out: &mut [u16]) -> Counted
     ensures { λ r. ⌜ r ≡ countedOf (meant (now (file .entry)) (lends (now (board .entry)) (now (out .entry)) []) (interval cell)) ⌝ }
     ensures { λ _. ⌜ now (out .exit) ≡ meant (now (file .entry)) (lends (now (board .entry)) (now (out .entry)) []) (interval cell) .lent .out ⌝ }
+    ensures { λ _. ⌜ now (file .exit) ≡ now (file .entry) ⌝ }
+    ensures { λ _. ⌜ now (board .exit) ≡ now (board .entry) ⌝ }
 {
     match calls::check_interval(file, board, cell, out.len()) {
         Check::Passed(l) => {
@@ -40,6 +43,7 @@ pub fn interval(file: &[u8], board: &[u8], cell: u16, out: &mut [u16]) -> Counte
 pub fn close(file: &[u8], board: &mut [u8], holder: u8, cell: u16, first: u16, last: u16) -> Answer
     ensures { λ r. ⌜ r ≡ answerOf (meant (now (file .entry)) (onBoard (now (board .entry))) (listed (close holder cell first last)) .number) ⌝ }
     ensures { λ _. ⌜ now (board .exit) ≡ meant (now (file .entry)) (onBoard (now (board .entry))) (listed (close holder cell first last)) .lent .board ⌝ }
+    ensures { λ _. ⌜ now (file .exit) ≡ now (file .entry) ⌝ }
 {
     match calls::check_close(file, board, holder, cell, first, last) {
         Check::Passed(l) => {
@@ -54,6 +58,7 @@ pub fn close(file: &[u8], board: &mut [u8], holder: u8, cell: u16, first: u16, l
 pub fn withdraw(file: &[u8], board: &mut [u8], holder: u8) -> Answer
     ensures { λ r. ⌜ r ≡ answerOf (meant (now (file .entry)) (onBoard (now (board .entry))) (listed (withdraw holder)) .number) ⌝ }
     ensures { λ _. ⌜ now (board .exit) ≡ meant (now (file .entry)) (onBoard (now (board .entry))) (listed (withdraw holder)) .lent .board ⌝ }
+    ensures { λ _. ⌜ now (file .exit) ≡ now (file .entry) ⌝ }
 {
     match calls::check_withdraw(file, board, holder) {
         Check::Passed(_) => {

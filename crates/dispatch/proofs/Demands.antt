@@ -2,7 +2,7 @@
 -- `Learnt` and its arguments are those of crates/board_calls/proofs/Exact.antt.
 -- Assumes nothing.
 use Prim.Native.Nat.{ℕ}
-use mathlib.Core.Path.{refl}
+use mathlib.Core.Path.{_≡_, refl}
 use mathlib.Core.List.{List, []}
 use contract.Lifetimes.{Lfts}
 use denote.Ref.{RefT, now}
@@ -14,7 +14,7 @@ use Rattle.answers.specs.declared.Answer.{Answer}
 use Rattle.answers.specs.declared.Counted.{Counted}
 use Rattle.answers.specs.declared.Granted.{Granted}
 use Rattle.answers.specs.Answers.{numberOf, answerOf, countedNumber, countedValues, countedOf, grantedNumber, grantedValues, grantedOf}
-use Rattle.answers.proofs.Desks.{boardDone, lend, turns, allows-meant, every-run}
+use Rattle.answers.proofs.Desks.{boardDone, lifetimes, lend, turns, allows-meant, every-run}
 use Rattle.board_calls.proofs.Exact.{open-meant, interval-meant, close-meant, withdraw-meant}
 use Rattle.light_calls.proofs.Exact.{audit-meant, post-meant}
 use Rattle.route_call.proofs.Exact.{route-meant}
@@ -26,41 +26,44 @@ use Rattle.light_calls.proofs.post.Reads as post-reads
 use Rattle.board_calls.proofs.close.Reads as close-reads
 use Rattle.board_calls.proofs.withdraw.Reads as withdraw-reads
 
--- `Calls file lent call done`: the contract of the call's function allows this answer and these areas after it
+-- `Calls file lent call done`: the contract of the call's function allows this answer and these areas after it. Each parameter as the
+-- function leaves it has a name of its own, so that what stays is learnt from the contract and from nothing else.
 pub data Calls : List ℕ → Lent → PublicCall → Done → Type 0 where
-  opens : (κs : Lfts 2) (file board left : RefT (List ℕ)) (out words : List ℕ) (r : Answer)
-      → open-reads.Learnt κs (file, (board, tt)) r (file, (left, tt))
+  opens : (κs : Lfts 2) (file board file′ left : RefT (List ℕ)) (out words : List ℕ) (r : Answer)
+      → open-reads.Learnt κs (file, (board, tt)) r (file′, (left, tt))
       → Calls (now file) (lends (now board) out words) opening (boardDone (numberOf r) (now left) out words)
-  counts : (κs : Lfts 3) (file board out left : RefT (List ℕ)) (cell : ℕ) (words : List ℕ) (r : Counted)
-      → interval-reads.Learnt κs (file, (board, (cell, (out, tt)))) r (file, (board, (cell, (left, tt))))
+  counts : (κs : Lfts 3) (file board out file′ board′ left : RefT (List ℕ)) (cell cell′ : ℕ) (words : List ℕ) (r : Counted)
+      → interval-reads.Learnt κs (file, (board, (cell, (out, tt)))) r (file′, (board′, (cell′, (left, tt))))
       → Calls (now file) (lends (now board) (now out) words) (interval cell)
-      (record { number = countedNumber r; values = countedValues r; lent = lends (now board) (now left) words })
-  routes : (κs : Lfts 4) (file board out words left cleared : RefT (List ℕ)) (tug start tick goal : ℕ) (r : Granted)
-      → route-reads.Learnt κs (file, (board, (tug, (start, (tick, (goal, (out, (words, tt)))))))) r (file, (board, (tug, (start, (tick, (goal, (left, (cleared, tt))))))))
+      (record { number = countedNumber r; values = countedValues r; lent = lends (now board′) (now left) words })
+  routes : (κs : Lfts 4) (file board out words file′ board′ left cleared : RefT (List ℕ)) (tug start tick goal tug′ start′ tick′ goal′ : ℕ) (r : Granted)
+      → route-reads.Learnt κs (file, (board, (tug, (start, (tick, (goal, (out, (words, tt)))))))) r (file′, (board′, (tug′, (start′, (tick′, (goal′, (left, (cleared, tt))))))))
       → Calls (now file) (lends (now board) (now out) (now words)) (listed (route tug (node start tick) goal))
-      (record { number = grantedNumber r; values = grantedValues r; lent = lends (now board) (now left) (now cleared) })
-  audits : (κs : Lfts 3) (file board light : RefT (List ℕ)) (out words : List ℕ) (r : Answer)
-      → audit-reads.Learnt κs (file, (board, (light, tt))) r (file, (board, (light, tt)))
-      → Calls (now file) (lends (now board) out words) (listed (audit (now light))) (boardDone (numberOf r) (now board) out words)
-  posts : (κs : Lfts 3) (file board light left : RefT (List ℕ)) (out words : List ℕ) (r : Answer)
-      → post-reads.Learnt κs (file, (board, (light, tt))) r (file, (left, (light, tt)))
+      (record { number = grantedNumber r; values = grantedValues r; lent = lends (now board′) (now left) (now cleared) })
+  audits : (κs : Lfts 3) (file board light file′ left light′ : RefT (List ℕ)) (out words : List ℕ) (r : Answer)
+      → audit-reads.Learnt κs (file, (board, (light, tt))) r (file′, (left, (light′, tt)))
+      → Calls (now file) (lends (now board) out words) (listed (audit (now light))) (boardDone (numberOf r) (now left) out words)
+  posts : (κs : Lfts 3) (file board light file′ left light′ : RefT (List ℕ)) (out words : List ℕ) (r : Answer)
+      → post-reads.Learnt κs (file, (board, (light, tt))) r (file′, (left, (light′, tt)))
       → Calls (now file) (lends (now board) out words) (listed (post (now light))) (boardDone (numberOf r) (now left) out words)
-  closes : (κs : Lfts 2) (file board left : RefT (List ℕ)) (h cell first last : ℕ) (out words : List ℕ) (r : Answer)
-      → close-reads.Learnt κs (file, (board, (h, (cell, (first, (last, tt)))))) r (file, (left, (h, (cell, (first, (last, tt))))))
+  closes : (κs : Lfts 2) (file board file′ left : RefT (List ℕ)) (h cell first last h′ cell′ first′ last′ : ℕ) (out words : List ℕ) (r : Answer)
+      → close-reads.Learnt κs (file, (board, (h, (cell, (first, (last, tt)))))) r (file′, (left, (h′, (cell′, (first′, (last′, tt))))))
       → Calls (now file) (lends (now board) out words) (listed (close h cell first last)) (boardDone (numberOf r) (now left) out words)
-  withdraws : (κs : Lfts 2) (file board left : RefT (List ℕ)) (h : ℕ) (out words : List ℕ) (r : Answer)
-      → withdraw-reads.Learnt κs (file, (board, (h, tt))) r (file, (left, (h, tt)))
+  withdraws : (κs : Lfts 2) (file board file′ left : RefT (List ℕ)) (h h′ : ℕ) (out words : List ℕ) (r : Answer)
+      → withdraw-reads.Learnt κs (file, (board, (h, tt))) r (file′, (left, (h′, tt)))
       → Calls (now file) (lends (now board) out words) (listed (withdraw h)) (boardDone (numberOf r) (now left) out words)
 
 -- each contract is one equation to the definitions' desk
 pub exact : Exact Calls
-exact file l q d (Calls.opens κs f board left out words r p) = open-meant f board left out words r κs p
-exact file l q d (Calls.counts κs f board out left cell words r p) = interval-meant f board out left words r κs cell p
-exact file l q d (Calls.routes κs f board out words left cleared tug start tick goal r p) = route-meant f board out words left cleared r κs tug start tick goal p
-exact file l q d (Calls.audits κs f board light out words r p) = audit-meant f board light out words r κs p
-exact file l q d (Calls.posts κs f board light left out words r p) = post-meant f board light out words r κs left p
-exact file l q d (Calls.closes κs f board left h cell first last out words r p) = close-meant f board left out words r κs h cell first last p
-exact file l q d (Calls.withdraws κs f board left h out words r p) = withdraw-meant f board left out words r κs h p
+exact file l q d (Calls.opens κs f board f′ left out words r p) = open-meant f board f′ left out words r κs p .0
+exact file l q d (Calls.counts κs f board out f′ board′ left cell cell′ words r p) = interval-meant f board out f′ board′ left words r κs cell cell′ p .0
+exact file l q d (Calls.routes κs f board out words f′ board′ left cleared tug start tick goal tug′ start′ tick′ goal′ r p) =
+    route-meant f board out words f′ board′ left cleared r κs tug start tick goal tug′ start′ tick′ goal′ p .0
+exact file l q d (Calls.audits κs f board light f′ left light′ out words r p) = audit-meant f board light f′ left light′ out words r κs p .0
+exact file l q d (Calls.posts κs f board light f′ left light′ out words r p) = post-meant f board light f′ left light′ out words r κs p .0
+exact file l q d (Calls.closes κs f board f′ left h cell first last h′ cell′ first′ last′ out words r p) =
+    close-meant f board f′ left out words r κs h cell first last h′ cell′ first′ last′ p .0
+exact file l q d (Calls.withdraws κs f board f′ left h h′ out words r p) = withdraw-meant f board f′ left out words r κs h h′ p .0
 
 -- So each call returns and writes exactly what document 01 says; the intervals are all safe intervals and the audit is right; and after
 -- every list of calls, of any length, the board and all answers are the plain board's, with routes that are complete and earliest.
@@ -72,6 +75,37 @@ demand2 = exact-demands Calls exact .second
 
 pub demand3 : Demand3 Calls
 demand3 = exact-demands Calls exact .third
+
+-- ---- a site file and a light, which are lent for reading, are after the call as they were; what a call leaves of a board is in `Calls`
+
+pub record Unchanged : Type 0 where
+  pub opens : (κs : Lfts 2) (file board file′ left : RefT (List ℕ)) (r : Answer) → open-reads.Learnt κs (file, (board, tt)) r (file′, (left, tt)) → now file′ ≡ now file
+  pub counts : (κs : Lfts 3) (file board out file′ board′ left : RefT (List ℕ)) (cell cell′ : ℕ) (r : Counted)
+      → interval-reads.Learnt κs (file, (board, (cell, (out, tt)))) r (file′, (board′, (cell′, (left, tt)))) → now file′ ≡ now file
+  pub routes : (κs : Lfts 4) (file board out words file′ board′ left cleared : RefT (List ℕ)) (tug start tick goal tug′ start′ tick′ goal′ : ℕ) (r : Granted)
+      → route-reads.Learnt κs (file, (board, (tug, (start, (tick, (goal, (out, (words, tt)))))))) r (file′, (board′, (tug′, (start′, (tick′, (goal′, (left, (cleared, tt))))))))
+      → now file′ ≡ now file
+  pub audits : (κs : Lfts 3) (file board light file′ left light′ : RefT (List ℕ)) (r : Answer)
+      → audit-reads.Learnt κs (file, (board, (light, tt))) r (file′, (left, (light′, tt))) → (now file′ ≡ now file) × (now light′ ≡ now light)
+  pub posts : (κs : Lfts 3) (file board light file′ left light′ : RefT (List ℕ)) (r : Answer)
+      → post-reads.Learnt κs (file, (board, (light, tt))) r (file′, (left, (light′, tt))) → (now file′ ≡ now file) × (now light′ ≡ now light)
+  pub closes : (κs : Lfts 2) (file board file′ left : RefT (List ℕ)) (h cell first last h′ cell′ first′ last′ : ℕ) (r : Answer)
+      → close-reads.Learnt κs (file, (board, (h, (cell, (first, (last, tt)))))) r (file′, (left, (h′, (cell′, (first′, (last′, tt)))))) → now file′ ≡ now file
+  pub withdraws : (κs : Lfts 2) (file board file′ left : RefT (List ℕ)) (h h′ : ℕ) (r : Answer)
+      → withdraw-reads.Learnt κs (file, (board, (h, tt))) r (file′, (left, (h′, tt))) → now file′ ≡ now file
+
+pub unchanged : Unchanged
+unchanged = record {
+  opens = λ κs file board file′ left r p. open-meant file board file′ left [] [] r κs p .1;
+  counts = λ κs file board out file′ board′ left cell cell′ r p. interval-meant file board out file′ board′ left [] r κs cell cell′ p .1;
+  routes = λ κs file board out words file′ board′ left cleared tug start tick goal tug′ start′ tick′ goal′ r p.
+      route-meant file board out words file′ board′ left cleared r κs tug start tick goal tug′ start′ tick′ goal′ p .1;
+  audits = λ κs file board light file′ left light′ r p. audit-meant file board light file′ left light′ [] [] r κs p .1;
+  posts = λ κs file board light file′ left light′ r p. post-meant file board light file′ left light′ [] [] r κs p .1;
+  closes = λ κs file board file′ left h cell first last h′ cell′ first′ last′ r p.
+      close-meant file board file′ left [] [] r κs h cell first last h′ cell′ first′ last′ p .1;
+  withdraws = λ κs file board file′ left h h′ r p. withdraw-meant file board file′ left [] [] r κs h h′ p .1;
+}
 
 -- ---- the calls ask nothing of their callers: `Asked` is what a contract requires
 
@@ -98,30 +132,31 @@ asks-nothing = record {
 
 -- ---- the claims are not empty: the contracts allow what is meant of every call, and so a run of every list
 
-module _ (two : Lfts 2) (three : Lfts 3) (four : Lfts 4) (file : List ℕ) where
+module _ (file : List ℕ) where
   pub can : (l : Lent) (q : PublicCall) → Calls file l q (meant file l q)
   can l opening =
       let is : Done = meant file (onBoard (l .board)) opening in
-      allows-meant Calls exact (Calls.opens two (lend file) (lend (l .board)) (lend (is .lent .board)) (l .out) (l .words) (answerOf (is .number)) (refl, refl))
+      allows-meant Calls exact (Calls.opens (lifetimes 2) (lend file) (lend (l .board)) (lend file) (lend (is .lent .board)) (l .out) (l .words) (answerOf (is .number)) (refl, (refl, refl)))
   can l (interval cell) =
       let is : Done = meant file (lends (l .board) (l .out) []) (interval cell) in
-      allows-meant Calls exact (Calls.counts three (lend file) (lend (l .board)) (lend (l .out)) (lend (is .lent .out)) cell (l .words) (countedOf is) (refl, refl))
+      allows-meant Calls exact (Calls.counts (lifetimes 3) (lend file) (lend (l .board)) (lend (l .out)) (lend file) (lend (l .board)) (lend (is .lent .out)) cell cell (l .words) (countedOf is) (refl, (refl, (refl, refl))))
   can l (listed (route tug a goal)) =
       let is : Done = meant file l (listed (route tug a goal)) in
       allows-meant Calls exact
-      (Calls.routes four (lend file) (lend (l .board)) (lend (l .out)) (lend (l .words)) (lend (is .lent .out)) (lend (is .lent .words)) tug (a .state) (a .tick) goal (grantedOf is) (refl, (refl, refl)))
+      (Calls.routes (lifetimes 4) (lend file) (lend (l .board)) (lend (l .out)) (lend (l .words)) (lend file) (lend (l .board)) (lend (is .lent .out)) (lend (is .lent .words))
+      tug (a .state) (a .tick) goal tug (a .state) (a .tick) goal (grantedOf is) (refl, (refl, (refl, (refl, refl)))))
   can l (listed (audit light)) =
       let is : Done = meant file (onBoard (l .board)) (listed (audit light)) in
-      allows-meant Calls exact (Calls.audits three (lend file) (lend (l .board)) (lend light) (l .out) (l .words) (answerOf (is .number)) refl)
+      allows-meant Calls exact (Calls.audits (lifetimes 3) (lend file) (lend (l .board)) (lend light) (lend file) (lend (l .board)) (lend light) (l .out) (l .words) (answerOf (is .number)) (refl, (refl, (refl, refl))))
   can l (listed (post light)) =
       let is : Done = meant file (onBoard (l .board)) (listed (post light)) in
-      allows-meant Calls exact (Calls.posts three (lend file) (lend (l .board)) (lend light) (lend (is .lent .board)) (l .out) (l .words) (answerOf (is .number)) (refl, refl))
+      allows-meant Calls exact (Calls.posts (lifetimes 3) (lend file) (lend (l .board)) (lend light) (lend file) (lend (is .lent .board)) (lend light) (l .out) (l .words) (answerOf (is .number)) (refl, (refl, (refl, refl))))
   can l (listed (close h cell first last)) =
       let is : Done = meant file (onBoard (l .board)) (listed (close h cell first last)) in
-      allows-meant Calls exact (Calls.closes two (lend file) (lend (l .board)) (lend (is .lent .board)) h cell first last (l .out) (l .words) (answerOf (is .number)) (refl, refl))
+      allows-meant Calls exact (Calls.closes (lifetimes 2) (lend file) (lend (l .board)) (lend file) (lend (is .lent .board)) h cell first last h cell first last (l .out) (l .words) (answerOf (is .number)) (refl, (refl, refl)))
   can l (listed (withdraw h)) =
       let is : Done = meant file (onBoard (l .board)) (listed (withdraw h)) in
-      allows-meant Calls exact (Calls.withdraws two (lend file) (lend (l .board)) (lend (is .lent .board)) h (l .out) (l .words) (answerOf (is .number)) (refl, refl))
+      allows-meant Calls exact (Calls.withdraws (lifetimes 2) (lend file) (lend (l .board)) (lend file) (lend (is .lent .board)) h h (l .out) (l .words) (answerOf (is .number)) (refl, (refl, refl)))
 
   pub some-run : (board : List ℕ) (cs : List (Call × (List ℕ × List ℕ))) → Follows Calls file board (turns file board cs)
   some-run = every-run Calls file can

@@ -12,7 +12,7 @@ use Rattle.meaning.proofs.AreaLaws.{BoardCall}
 use Rattle.meaning.proofs.Theorems.{exact-demands}
 use Rattle.meaning.specs.Plan.{node}
 use Rattle.answers.specs.Answers.{countedOf, grantedOf}
-use Rattle.answers.proofs.Desks.{boardDone, board-exact, audit-exact, interval-exact, route-exact, lend, turns, allows-meant, every-run}
+use Rattle.answers.proofs.Desks.{boardDone, board-exact, audit-exact, interval-exact, route-exact, lifetimes, lend, turns, allows-meant, every-run}
 use Rattle.dispatch_c.specs.Words.{countedWord, grantedWord, wordNumber, countedIn, grantedIn}
 use Rattle.dispatch_c.proofs.WordLaws.{number-back, interval-back, route-back}
 use Rattle.dispatch_c.proofs.dispatch_open.Reads as open-reads
@@ -23,30 +23,31 @@ use Rattle.dispatch_c.proofs.dispatch_post.Reads as post-reads
 use Rattle.dispatch_c.proofs.dispatch_close.Reads as close-reads
 use Rattle.dispatch_c.proofs.dispatch_withdraw.Reads as withdraw-reads
 
--- `Exported file lent call done`: the contract of the call's exported function allows a word `w` that reads so, and these areas after it
+-- `Exported file lent call done`: the contract of the call's exported function allows a word `w` that reads so, and these areas after
+-- it. Each parameter as the function leaves it has a name of its own, so that what stays is learnt from the contract and from nothing else.
 pub data Exported : List ℕ → Lent → PublicCall → Done → Type 0 where
-  opens : (κs : Lfts 2) (file board left : RefT (List ℕ)) (out words : List ℕ) (w : ℕ)
-      → open-reads.Learnt κs (file, (board, tt)) w (file, (left, tt))
+  opens : (κs : Lfts 2) (file board file′ left : RefT (List ℕ)) (out words : List ℕ) (w : ℕ)
+      → open-reads.Learnt κs (file, (board, tt)) w (file′, (left, tt))
       → Exported (now file) (lends (now board) out words) opening (boardDone (wordNumber w) (now left) out words)
-  counts : (κs : Lfts 3) (file board out left : RefT (List ℕ)) (cell : ℕ) (words : List ℕ) (w : ℕ)
-      → interval-reads.Learnt κs (file, (board, (cell, (out, tt)))) w (file, (board, (cell, (left, tt))))
+  counts : (κs : Lfts 3) (file board out file′ board′ left : RefT (List ℕ)) (cell cell′ : ℕ) (words : List ℕ) (w : ℕ)
+      → interval-reads.Learnt κs (file, (board, (cell, (out, tt)))) w (file′, (board′, (cell′, (left, tt))))
       → Exported (now file) (lends (now board) (now out) words) (interval cell)
-      (record { number = wordNumber w; values = countedIn w; lent = lends (now board) (now left) words })
-  routes : (κs : Lfts 4) (file board out words left cleared : RefT (List ℕ)) (tug start tick goal w : ℕ)
-      → route-reads.Learnt κs (file, (board, (tug, (start, (tick, (goal, (out, (words, tt)))))))) w (file, (board, (tug, (start, (tick, (goal, (left, (cleared, tt))))))))
+      (record { number = wordNumber w; values = countedIn w; lent = lends (now board′) (now left) words })
+  routes : (κs : Lfts 4) (file board out words file′ board′ left cleared : RefT (List ℕ)) (tug start tick goal tug′ start′ tick′ goal′ w : ℕ)
+      → route-reads.Learnt κs (file, (board, (tug, (start, (tick, (goal, (out, (words, tt)))))))) w (file′, (board′, (tug′, (start′, (tick′, (goal′, (left, (cleared, tt))))))))
       → Exported (now file) (lends (now board) (now out) (now words)) (listed (route tug (node start tick) goal))
-      (record { number = wordNumber w; values = grantedIn w; lent = lends (now board) (now left) (now cleared) })
-  audits : (κs : Lfts 3) (file board light : RefT (List ℕ)) (out words : List ℕ) (w : ℕ)
-      → audit-reads.Learnt κs (file, (board, (light, tt))) w (file, (board, (light, tt)))
-      → Exported (now file) (lends (now board) out words) (listed (audit (now light))) (boardDone (wordNumber w) (now board) out words)
-  posts : (κs : Lfts 3) (file board light left : RefT (List ℕ)) (out words : List ℕ) (w : ℕ)
-      → post-reads.Learnt κs (file, (board, (light, tt))) w (file, (left, (light, tt)))
+      (record { number = wordNumber w; values = grantedIn w; lent = lends (now board′) (now left) (now cleared) })
+  audits : (κs : Lfts 3) (file board light file′ left light′ : RefT (List ℕ)) (out words : List ℕ) (w : ℕ)
+      → audit-reads.Learnt κs (file, (board, (light, tt))) w (file′, (left, (light′, tt)))
+      → Exported (now file) (lends (now board) out words) (listed (audit (now light))) (boardDone (wordNumber w) (now left) out words)
+  posts : (κs : Lfts 3) (file board light file′ left light′ : RefT (List ℕ)) (out words : List ℕ) (w : ℕ)
+      → post-reads.Learnt κs (file, (board, (light, tt))) w (file′, (left, (light′, tt)))
       → Exported (now file) (lends (now board) out words) (listed (post (now light))) (boardDone (wordNumber w) (now left) out words)
-  closes : (κs : Lfts 2) (file board left : RefT (List ℕ)) (h cell first last : ℕ) (out words : List ℕ) (w : ℕ)
-      → close-reads.Learnt κs (file, (board, (h, (cell, (first, (last, tt)))))) w (file, (left, (h, (cell, (first, (last, tt))))))
+  closes : (κs : Lfts 2) (file board file′ left : RefT (List ℕ)) (h cell first last h′ cell′ first′ last′ : ℕ) (out words : List ℕ) (w : ℕ)
+      → close-reads.Learnt κs (file, (board, (h, (cell, (first, (last, tt)))))) w (file′, (left, (h′, (cell′, (first′, (last′, tt))))))
       → Exported (now file) (lends (now board) out words) (listed (close h cell first last)) (boardDone (wordNumber w) (now left) out words)
-  withdraws : (κs : Lfts 2) (file board left : RefT (List ℕ)) (h : ℕ) (out words : List ℕ) (w : ℕ)
-      → withdraw-reads.Learnt κs (file, (board, (h, tt))) w (file, (left, (h, tt)))
+  withdraws : (κs : Lfts 2) (file board file′ left : RefT (List ℕ)) (h h′ : ℕ) (out words : List ℕ) (w : ℕ)
+      → withdraw-reads.Learnt κs (file, (board, (h, tt))) w (file′, (left, (h′, tt)))
       → Exported (now file) (lends (now board) out words) (listed (withdraw h)) (boardDone (wordNumber w) (now left) out words)
 
 -- a call that is lent a board alone
@@ -57,22 +58,24 @@ board-word file board left out words q alone w said leaves =
 
 -- each contract is one equation to the definitions' desk
 pub exact : Exact Exported
-exact file l q d (Exported.opens κs f board left out words w p) = board-word (now f) (now board) (now left) out words opening tt w (p .0) (p .1)
-exact file l q d (Exported.counts κs f board out left cell words w p) =
+exact file l q d (Exported.opens κs f board f′ left out words w p) = board-word (now f) (now board) (now left) out words opening tt w (p .0) (p .1 .0)
+exact file l q d (Exported.counts κs f board out f′ board′ left cell cell′ words w p) =
     let back = interval-back (now f) (lends (now board) (now out) []) cell w (p .0) in
-    interval-exact (now f) (now board) (now out) words cell (wordNumber w) (countedIn w) (now left) (back .0) (back .1) (p .1)
-exact file l q d (Exported.routes κs f board out words left cleared tug start tick goal w p) =
+    interval-exact (now f) (now board) (now out) words (now board′) (p .1 .1 .1) cell (wordNumber w) (countedIn w) (now left) (back .0) (back .1) (p .1 .0)
+exact file l q d (Exported.routes κs f board out words f′ board′ left cleared tug start tick goal tug′ start′ tick′ goal′ w p) =
     let lent : Lent = lends (now board) (now out) (now words) in
     let back = route-back (now f) lent tug (node start tick) goal w (p .0) in
-    route-exact (now f) lent tug (node start tick) goal (wordNumber w) (grantedIn w) (now left) (now cleared) (back .0) (back .1) (p .1 .0) (p .1 .1)
-exact file l q d (Exported.audits κs f board light out words w p) =
-    audit-exact (now f) (now board) out words (now light) (wordNumber w) (number-back (now f) (onBoard (now board)) (listed (audit (now light))) w p)
-exact file l q d (Exported.posts κs f board light left out words w p) =
-    board-word (now f) (now board) (now left) out words (listed (post (now light))) tt w (p .0) (p .1)
-exact file l q d (Exported.closes κs f board left h cell first last out words w p) =
-    board-word (now f) (now board) (now left) out words (listed (close h cell first last)) tt w (p .0) (p .1)
-exact file l q d (Exported.withdraws κs f board left h out words w p) =
-    board-word (now f) (now board) (now left) out words (listed (withdraw h)) tt w (p .0) (p .1)
+    route-exact (now f) lent tug (node start tick) goal (now board′) (p .1 .1 .1 .1) (wordNumber w) (grantedIn w) (now left) (now cleared)
+    (back .0) (back .1) (p .1 .0) (p .1 .1 .0)
+exact file l q d (Exported.audits κs f board light f′ left light′ out words w p) =
+    audit-exact (now f) (now board) out words (now left) (now light) (p .1 .1 .0) (wordNumber w)
+    (number-back (now f) (onBoard (now board)) (listed (audit (now light))) w (p .0))
+exact file l q d (Exported.posts κs f board light f′ left light′ out words w p) =
+    board-word (now f) (now board) (now left) out words (listed (post (now light))) tt w (p .0) (p .1 .0)
+exact file l q d (Exported.closes κs f board f′ left h cell first last h′ cell′ first′ last′ out words w p) =
+    board-word (now f) (now board) (now left) out words (listed (close h cell first last)) tt w (p .0) (p .1 .0)
+exact file l q d (Exported.withdraws κs f board f′ left h h′ out words w p) =
+    board-word (now f) (now board) (now left) out words (listed (withdraw h)) tt w (p .0) (p .1 .0)
 
 -- so the three demands hold of what a caller in C sees
 pub demand1 : Demand1 Exported
@@ -83,6 +86,35 @@ demand2 = exact-demands Exported exact .second
 
 pub demand3 : Demand3 Exported
 demand3 = exact-demands Exported exact .third
+
+-- ---- a site file and a light, which are lent for reading, are after the call as they were; what a call leaves of a board is in `Exported`
+
+pub record Unchanged : Type 0 where
+  pub opens : (κs : Lfts 2) (file board file′ left : RefT (List ℕ)) (w : ℕ) → open-reads.Learnt κs (file, (board, tt)) w (file′, (left, tt)) → now file′ ≡ now file
+  pub counts : (κs : Lfts 3) (file board out file′ board′ left : RefT (List ℕ)) (cell cell′ : ℕ) (w : ℕ)
+      → interval-reads.Learnt κs (file, (board, (cell, (out, tt)))) w (file′, (board′, (cell′, (left, tt)))) → now file′ ≡ now file
+  pub routes : (κs : Lfts 4) (file board out words file′ board′ left cleared : RefT (List ℕ)) (tug start tick goal tug′ start′ tick′ goal′ : ℕ) (w : ℕ)
+      → route-reads.Learnt κs (file, (board, (tug, (start, (tick, (goal, (out, (words, tt)))))))) w (file′, (board′, (tug′, (start′, (tick′, (goal′, (left, (cleared, tt))))))))
+      → now file′ ≡ now file
+  pub audits : (κs : Lfts 3) (file board light file′ left light′ : RefT (List ℕ)) (w : ℕ)
+      → audit-reads.Learnt κs (file, (board, (light, tt))) w (file′, (left, (light′, tt))) → (now file′ ≡ now file) × (now light′ ≡ now light)
+  pub posts : (κs : Lfts 3) (file board light file′ left light′ : RefT (List ℕ)) (w : ℕ)
+      → post-reads.Learnt κs (file, (board, (light, tt))) w (file′, (left, (light′, tt))) → (now file′ ≡ now file) × (now light′ ≡ now light)
+  pub closes : (κs : Lfts 2) (file board file′ left : RefT (List ℕ)) (h cell first last h′ cell′ first′ last′ : ℕ) (w : ℕ)
+      → close-reads.Learnt κs (file, (board, (h, (cell, (first, (last, tt)))))) w (file′, (left, (h′, (cell′, (first′, (last′, tt)))))) → now file′ ≡ now file
+  pub withdraws : (κs : Lfts 2) (file board file′ left : RefT (List ℕ)) (h h′ : ℕ) (w : ℕ)
+      → withdraw-reads.Learnt κs (file, (board, (h, tt))) w (file′, (left, (h′, tt))) → now file′ ≡ now file
+
+pub unchanged : Unchanged
+unchanged = record {
+  opens = λ κs file board file′ left w p. p .1 .1;
+  counts = λ κs file board out file′ board′ left cell cell′ w p. p .1 .1 .0;
+  routes = λ κs file board out words file′ board′ left cleared tug start tick goal tug′ start′ tick′ goal′ w p. p .1 .1 .1 .0;
+  audits = λ κs file board light file′ left light′ w p. (p .1 .0, p .1 .1 .1);
+  posts = λ κs file board light file′ left light′ w p. (p .1 .1 .0, p .1 .1 .1);
+  closes = λ κs file board file′ left h cell first last h′ cell′ first′ last′ w p. p .1 .1;
+  withdraws = λ κs file board file′ left h h′ w p. p .1 .1;
+}
 
 -- ---- the functions ask nothing of their callers: `Asked` is what a contract requires
 
@@ -109,31 +141,32 @@ asks-nothing = record {
 
 -- ---- the claims are not empty: the contracts allow what is meant of every call, and so a run of every list
 
-module _ (two : Lfts 2) (three : Lfts 3) (four : Lfts 4) (file : List ℕ) where
+module _ (file : List ℕ) where
   pub can : (l : Lent) (q : PublicCall) → Exported file l q (meant file l q)
   can l opening =
       let is : Done = meant file (onBoard (l .board)) opening in
-      allows-meant Exported exact (Exported.opens two (lend file) (lend (l .board)) (lend (is .lent .board)) (l .out) (l .words) (is .number) (refl, refl))
+      allows-meant Exported exact (Exported.opens (lifetimes 2) (lend file) (lend (l .board)) (lend file) (lend (is .lent .board)) (l .out) (l .words) (is .number) (refl, (refl, refl)))
   can l (interval cell) =
       let is : Done = meant file (lends (l .board) (l .out) []) (interval cell) in
       allows-meant Exported exact
-      (Exported.counts three (lend file) (lend (l .board)) (lend (l .out)) (lend (is .lent .out)) cell (l .words) (countedWord (countedOf is)) (refl, refl))
+      (Exported.counts (lifetimes 3) (lend file) (lend (l .board)) (lend (l .out)) (lend file) (lend (l .board)) (lend (is .lent .out)) cell cell (l .words) (countedWord (countedOf is)) (refl, (refl, (refl, refl))))
   can l (listed (route tug a goal)) =
       let is : Done = meant file l (listed (route tug a goal)) in
       allows-meant Exported exact
-      (Exported.routes four (lend file) (lend (l .board)) (lend (l .out)) (lend (l .words)) (lend (is .lent .out)) (lend (is .lent .words)) tug (a .state) (a .tick) goal (grantedWord (grantedOf is)) (refl, (refl, refl)))
+      (Exported.routes (lifetimes 4) (lend file) (lend (l .board)) (lend (l .out)) (lend (l .words)) (lend file) (lend (l .board)) (lend (is .lent .out)) (lend (is .lent .words))
+      tug (a .state) (a .tick) goal tug (a .state) (a .tick) goal (grantedWord (grantedOf is)) (refl, (refl, (refl, (refl, refl)))))
   can l (listed (audit light)) =
       let is : Done = meant file (onBoard (l .board)) (listed (audit light)) in
-      allows-meant Exported exact (Exported.audits three (lend file) (lend (l .board)) (lend light) (l .out) (l .words) (is .number) refl)
+      allows-meant Exported exact (Exported.audits (lifetimes 3) (lend file) (lend (l .board)) (lend light) (lend file) (lend (l .board)) (lend light) (l .out) (l .words) (is .number) (refl, (refl, (refl, refl))))
   can l (listed (post light)) =
       let is : Done = meant file (onBoard (l .board)) (listed (post light)) in
-      allows-meant Exported exact (Exported.posts three (lend file) (lend (l .board)) (lend light) (lend (is .lent .board)) (l .out) (l .words) (is .number) (refl, refl))
+      allows-meant Exported exact (Exported.posts (lifetimes 3) (lend file) (lend (l .board)) (lend light) (lend file) (lend (is .lent .board)) (lend light) (l .out) (l .words) (is .number) (refl, (refl, (refl, refl))))
   can l (listed (close h cell first last)) =
       let is : Done = meant file (onBoard (l .board)) (listed (close h cell first last)) in
-      allows-meant Exported exact (Exported.closes two (lend file) (lend (l .board)) (lend (is .lent .board)) h cell first last (l .out) (l .words) (is .number) (refl, refl))
+      allows-meant Exported exact (Exported.closes (lifetimes 2) (lend file) (lend (l .board)) (lend file) (lend (is .lent .board)) h cell first last h cell first last (l .out) (l .words) (is .number) (refl, (refl, refl)))
   can l (listed (withdraw h)) =
       let is : Done = meant file (onBoard (l .board)) (listed (withdraw h)) in
-      allows-meant Exported exact (Exported.withdraws two (lend file) (lend (l .board)) (lend (is .lent .board)) h (l .out) (l .words) (is .number) (refl, refl))
+      allows-meant Exported exact (Exported.withdraws (lifetimes 2) (lend file) (lend (l .board)) (lend file) (lend (is .lent .board)) h h (l .out) (l .words) (is .number) (refl, (refl, refl)))
 
   pub some-run : (board : List ℕ) (cs : List (Call × (List ℕ × List ℕ))) → Follows Exported file board (turns file board cs)
   some-run = every-run Exported file can

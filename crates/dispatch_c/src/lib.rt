@@ -40,6 +40,7 @@ fn granted_word(g: Granted) -> u64
 pub extern "C" fn dispatch_open(file: &[u8], board: &mut [u8]) -> u64
     ensures { λ r. ⌜ r ≡ meant (now (file .entry)) (onBoard (now (board .entry))) opening .number ⌝ }
     ensures { λ _. ⌜ now (board .exit) ≡ meant (now (file .entry)) (onBoard (now (board .entry))) opening .lent .board ⌝ }
+    ensures { λ _. ⌜ now (file .exit) ≡ now (file .entry) ⌝ }
 {
     answer_word(dispatch::open(file, board))
 }
@@ -48,6 +49,8 @@ pub extern "C" fn dispatch_open(file: &[u8], board: &mut [u8]) -> u64
 pub extern "C" fn dispatch_interval(file: &[u8], board: &[u8], cell: u16, out: &mut [u16]) -> u64
     ensures { λ r. ⌜ r ≡ countedWord (countedOf (meant (now (file .entry)) (lends (now (board .entry)) (now (out .entry)) []) (interval cell))) ⌝ }
     ensures { λ _. ⌜ now (out .exit) ≡ meant (now (file .entry)) (lends (now (board .entry)) (now (out .entry)) []) (interval cell) .lent .out ⌝ }
+    ensures { λ _. ⌜ now (file .exit) ≡ now (file .entry) ⌝ }
+    ensures { λ _. ⌜ now (board .exit) ≡ now (board .entry) ⌝ }
 {
     counted_word(dispatch::interval(file, board, cell, out))
 }
@@ -66,6 +69,8 @@ pub extern "C" fn dispatch_route(
     ensures { λ r. ⌜ r ≡ grantedWord (grantedOf (meant (now (file .entry)) (lends (now (board .entry)) (now (out .entry)) (now (work .entry))) (listed (route tug (node start tick) goal)))) ⌝ }
     ensures { λ _. ⌜ now (out .exit) ≡ meant (now (file .entry)) (lends (now (board .entry)) (now (out .entry)) (now (work .entry))) (listed (route tug (node start tick) goal)) .lent .out ⌝ }
     ensures { λ _. ⌜ now (work .exit) ≡ meant (now (file .entry)) (lends (now (board .entry)) (now (out .entry)) (now (work .entry))) (listed (route tug (node start tick) goal)) .lent .words ⌝ }
+    ensures { λ _. ⌜ now (file .exit) ≡ now (file .entry) ⌝ }
+    ensures { λ _. ⌜ now (board .exit) ≡ now (board .entry) ⌝ }
 {
     granted_word(dispatch::route(file, board, tug, start, tick, goal, out, work))
 }
@@ -73,6 +78,9 @@ pub extern "C" fn dispatch_route(
 #[no_mangle]
 pub extern "C" fn dispatch_audit(file: &[u8], board: &[u8], light: &[u8]) -> u64
     ensures { λ r. ⌜ r ≡ meant (now (file .entry)) (onBoard (now (board .entry))) (listed (audit (now (light .entry)))) .number ⌝ }
+    ensures { λ _. ⌜ now (file .exit) ≡ now (file .entry) ⌝ }
+    ensures { λ _. ⌜ now (board .exit) ≡ now (board .entry) ⌝ }
+    ensures { λ _. ⌜ now (light .exit) ≡ now (light .entry) ⌝ }
 {
     answer_word(dispatch::audit(file, board, light))
 }
@@ -81,6 +89,8 @@ pub extern "C" fn dispatch_audit(file: &[u8], board: &[u8], light: &[u8]) -> u64
 pub extern "C" fn dispatch_post(file: &[u8], board: &mut [u8], light: &[u8]) -> u64
     ensures { λ r. ⌜ r ≡ meant (now (file .entry)) (onBoard (now (board .entry))) (listed (post (now (light .entry)))) .number ⌝ }
     ensures { λ _. ⌜ now (board .exit) ≡ meant (now (file .entry)) (onBoard (now (board .entry))) (listed (post (now (light .entry)))) .lent .board ⌝ }
+    ensures { λ _. ⌜ now (file .exit) ≡ now (file .entry) ⌝ }
+    ensures { λ _. ⌜ now (light .exit) ≡ now (light .entry) ⌝ }
 {
     answer_word(dispatch::post(file, board, light))
 }
@@ -96,6 +106,7 @@ pub extern "C" fn dispatch_close(
 ) -> u64
     ensures { λ r. ⌜ r ≡ meant (now (file .entry)) (onBoard (now (board .entry))) (listed (close holder cell first last)) .number ⌝ }
     ensures { λ _. ⌜ now (board .exit) ≡ meant (now (file .entry)) (onBoard (now (board .entry))) (listed (close holder cell first last)) .lent .board ⌝ }
+    ensures { λ _. ⌜ now (file .exit) ≡ now (file .entry) ⌝ }
 {
     answer_word(dispatch::close(file, board, holder, cell, first, last))
 }
@@ -104,6 +115,7 @@ pub extern "C" fn dispatch_close(
 pub extern "C" fn dispatch_withdraw(file: &[u8], board: &mut [u8], holder: u8) -> u64
     ensures { λ r. ⌜ r ≡ meant (now (file .entry)) (onBoard (now (board .entry))) (listed (withdraw holder)) .number ⌝ }
     ensures { λ _. ⌜ now (board .exit) ≡ meant (now (file .entry)) (onBoard (now (board .entry))) (listed (withdraw holder)) .lent .board ⌝ }
+    ensures { λ _. ⌜ now (file .exit) ≡ now (file .entry) ⌝ }
 {
     answer_word(dispatch::withdraw(file, board, holder))
 }

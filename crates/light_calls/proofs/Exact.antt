@@ -1,4 +1,4 @@
--- What the contracts of audit and post promise is what is meant, in one equation each. `Learnt` and its arguments are those of
+-- What the contracts of audit and post promise is what is meant, in one equation each, and the site file and the light stay. `Learnt` and its arguments are those of
 -- crates/board_calls/proofs/Exact.antt.
 -- Assumes nothing.
 use Prim.Native.Nat.{ℕ}
@@ -14,11 +14,15 @@ use Rattle.answers.proofs.Desks.{boardDone, board-exact, audit-exact}
 use Rattle.light_calls.proofs.audit.Reads as audit-reads
 use Rattle.light_calls.proofs.post.Reads as post-reads
 
-module _ (file board light : RefT (List ℕ)) (out words : List ℕ) (r : Answer) (κs : Lfts 3) where
-  pub audit-meant : audit-reads.Learnt κs (file, (board, (light, tt))) r (file, (board, (light, tt)))
-      → boardDone (numberOf r) (now board) out words ≡ meant (now file) (lends (now board) out words) (listed (audit (now light)))
-  audit-meant p = audit-exact (now file) (now board) out words (now light) (numberOf r) (answered r _ p)
+module _ (file board light file′ left light′ : RefT (List ℕ)) (out words : List ℕ) (r : Answer) (κs : Lfts 3) where
+  pub audit-meant : audit-reads.Learnt κs (file, (board, (light, tt))) r (file′, (left, (light′, tt)))
+      → (boardDone (numberOf r) (now left) out words ≡ meant (now file) (lends (now board) out words) (listed (audit (now light))))
+      × ((now file′ ≡ now file) × (now light′ ≡ now light))
+  audit-meant p =
+      (audit-exact (now file) (now board) out words (now left) (now light) (p .1 .1 .0) (numberOf r) (answered r _ (p .0)), (p .1 .0, p .1 .1 .1))
 
-  pub post-meant : (left : RefT (List ℕ)) → post-reads.Learnt κs (file, (board, (light, tt))) r (file, (left, (light, tt)))
-      → boardDone (numberOf r) (now left) out words ≡ meant (now file) (lends (now board) out words) (listed (post (now light)))
-  post-meant left p = board-exact (now file) (now board) out words (now left) (listed (post (now light))) tt (numberOf r) (answered r _ (p .0)) (p .1)
+  pub post-meant : post-reads.Learnt κs (file, (board, (light, tt))) r (file′, (left, (light′, tt)))
+      → (boardDone (numberOf r) (now left) out words ≡ meant (now file) (lends (now board) out words) (listed (post (now light))))
+      × ((now file′ ≡ now file) × (now light′ ≡ now light))
+  post-meant p =
+      (board-exact (now file) (now board) out words (now left) (listed (post (now light))) tt (numberOf r) (answered r _ (p .0)) (p .1 .0), p .1 .1)

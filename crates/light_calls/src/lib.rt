@@ -8,6 +8,9 @@ ghost use Rattle.answers.specs.Answers.{answerOf};
 // Answers as post would, and writes nothing.
 pub fn audit(file: &[u8], board: &[u8], light: &[u8]) -> Answer
     ensures { λ r. ⌜ r ≡ answerOf (meant (now (file .entry)) (onBoard (now (board .entry))) (listed (audit (now (light .entry)))) .number) ⌝ }
+    ensures { λ _. ⌜ now (file .exit) ≡ now (file .entry) ⌝ }
+    ensures { λ _. ⌜ now (board .exit) ≡ now (board .entry) ⌝ }
+    ensures { λ _. ⌜ now (light .exit) ≡ now (light .entry) ⌝ }
 {
     match posts::check_light(file, board, light) {
         Check::Passed(_) => Answer::Accepted,
@@ -19,6 +22,8 @@ pub fn audit(file: &[u8], board: &[u8], light: &[u8]) -> Answer
 pub fn post(file: &[u8], board: &mut [u8], light: &[u8]) -> Answer
     ensures { λ r. ⌜ r ≡ answerOf (meant (now (file .entry)) (onBoard (now (board .entry))) (listed (post (now (light .entry)))) .number) ⌝ }
     ensures { λ _. ⌜ now (board .exit) ≡ meant (now (file .entry)) (onBoard (now (board .entry))) (listed (post (now (light .entry)))) .lent .board ⌝ }
+    ensures { λ _. ⌜ now (file .exit) ≡ now (file .entry) ⌝ }
+    ensures { λ _. ⌜ now (light .exit) ≡ now (light .entry) ⌝ }
 {
     match posts::check_light(file, board, light) {
         Check::Passed(l) => {

@@ -21,6 +21,8 @@ pub fn route(
     ensures { λ r. ⌜ r ≡ grantedOf (meant (now (file .entry)) (lends (now (board .entry)) (now (out .entry)) (now (work .entry))) (listed (route tug (node start tick) goal))) ⌝ }
     ensures { λ _. ⌜ now (out .exit) ≡ meant (now (file .entry)) (lends (now (board .entry)) (now (out .entry)) (now (work .entry))) (listed (route tug (node start tick) goal)) .lent .out ⌝ }
     ensures { λ _. ⌜ now (work .exit) ≡ meant (now (file .entry)) (lends (now (board .entry)) (now (out .entry)) (now (work .entry))) (listed (route tug (node start tick) goal)) .lent .words ⌝ }
+    ensures { λ _. ⌜ now (file .exit) ≡ now (file .entry) ⌝ }
+    ensures { λ _. ⌜ now (board .exit) ≡ now (board .entry) ⌝ }
 {
     match routes::check_route(file, board, tug, start, tick, goal, out.len(), work.len()) {
         Check::Passed(l) => {

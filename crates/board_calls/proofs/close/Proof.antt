@@ -1,6 +1,6 @@
 -- `board_calls::close` meets its contract.
 -- Assumes nothing.
-use mathlib.Core.Path.{_≡_, sym, _∙_}
+use mathlib.Core.Path.{_≡_, refl, sym, _∙_}
 use borrow.Author.Needs.{needs}
 use Rattle.meaning.specs.Answers.{lowest}
 use Rattle.meaning.specs.Site.{siteOf}
@@ -43,7 +43,7 @@ returns c =
     let worked = c .before .before in
     let at = worked .before .before .before in (
       accepted-answer _ (onBoard _) (listed (close _ _ _ _)) _ (passes at),
-      accepted-board _ (onBoard _) (close _ _ _ _) _ (passes at) _ (worked .close-work .ensures _ (site-says _ (onBoard _) (listed (close _ _ _ _)) _ (passes at) .horizon)),
+      (accepted-board _ (onBoard _) (close _ _ _ _) _ (passes at) _ (worked .close-work .ensures _ (site-says _ (onBoard _) (listed (close _ _ _ _)) _ (passes at) .horizon)), refl),
     )
 
 same-length-2 : tie.Need-same-length-2
@@ -52,7 +52,7 @@ same-length-2 c = search needs
 returns-2 : tie.Need-returns-2
 returns-2 c =
     let e = sym (c .before .n .given .1) ∙ c .before .before .before .check-close .ensures in
-    (refused-answer _ (onBoard _) (listed (close _ _ _ _)) _ e, refused-board _ (onBoard _) (listed (close _ _ _ _)) _ e)
+    (refused-answer _ (onBoard _) (listed (close _ _ _ _)) _ e, (refused-board _ (onBoard _) (listed (close _ _ _ _)) _ e, refl))
 
 pub close-spec : {M : Type 1} → statement M
 close-spec =

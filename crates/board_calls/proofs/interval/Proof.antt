@@ -70,14 +70,14 @@ returns c =
     let worked = c .before .before in
     let at = arm worked in (
       interval-counted _ _ _ _ _ (passes at) _ (counted worked),
-      interval-left _ _ _ _ _ (passes at) _ (worked .write-intervals .ensures .1 _ (horizon-is at) (omega (arith, cell-in at))),
+      (interval-left _ _ _ _ _ (passes at) _ (worked .write-intervals .ensures .1 _ (horizon-is at) (omega (arith, cell-in at))), (refl, refl)),
     )
 
 returns-2 : tie.Need-returns-2
 returns-2 c =
     let a = c .before .before .before .before .before .before .before .args in
     let e = sym (c .before .n .given .1) ∙ c .before .before .before .check-interval .ensures (a .out .now) refl in
-    (refused-counted _ (lends _ _ []) _ _ e, refused-out _ (lends _ _ []) (interval _) _ e)
+    (refused-counted _ (lends _ _ []) _ _ e, (refused-out _ (lends _ _ []) (interval _) _ e, (refl, refl)))
 
 pub interval-spec : {M : Type 1} → statement M
 interval-spec =

@@ -1,7 +1,7 @@
 -- `board_calls::open` meets its contract.
 -- Assumes nothing.
 use Prim.Native.Nat.{ℕ}
-use mathlib.Core.Path.{_≡_, sym, ap, _∙_}
+use mathlib.Core.Path.{_≡_, refl, sym, ap, _∙_}
 use mathlib.Core.List.{List}
 use lib.ListN.{length, replicate}
 use borrow.Author.Needs.{needs}
@@ -48,7 +48,7 @@ returns : tie.Need-returns
 returns c =
     let worked = c .before .before in
     let at = worked .before .before in
-    (accepted-answer _ (onBoard _) opening _ (passes at), open-left _ _ _ (passes at) _ (worked .set-free .ensures))
+    (accepted-answer _ (onBoard _) opening _ (passes at), (open-left _ _ _ (passes at) _ (worked .set-free .ensures), refl))
 
 same-length-2 : tie.Need-same-length-2
 same-length-2 c = search needs
@@ -56,7 +56,7 @@ same-length-2 c = search needs
 returns-2 : tie.Need-returns-2
 returns-2 c =
     let e = sym (c .before .n .given .1) ∙ c .before .before .before .check-board .ensures in
-    (refused-answer _ (onBoard _) opening _ e, refused-board _ (onBoard _) opening _ e)
+    (refused-answer _ (onBoard _) opening _ e, (refused-board _ (onBoard _) opening _ e, refl))
 
 pub open-spec : {M : Type 1} → statement M
 open-spec =

@@ -14,7 +14,7 @@ answer-word-requires : tie.Need-answer-word-requires
 answer-word-requires c κs = search needs
 
 returns : tie.Need-returns
-returns c = c .answer-word .ensures ∙ ap numberOf (c .before .audit .ensures) ∙ answer-number _
+returns c = let called = c .before in (c .answer-word .ensures ∙ ap numberOf (called .audit .ensures .0) ∙ answer-number _, called .audit .ensures .1)
 
 pub dispatch-audit-spec : {M : Type 1} → statement M
 dispatch-audit-spec = tie.close (tie.spec audit-requires answer-word-requires returns)

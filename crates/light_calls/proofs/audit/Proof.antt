@@ -1,6 +1,6 @@
 -- `light_calls::audit` meets its contract.
 -- Assumes nothing.
-use mathlib.Core.Path.{_≡_, sym, ap, _∙_}
+use mathlib.Core.Path.{_≡_, refl, sym, ap, _∙_}
 use mathlib.Core.List.{List}
 use borrow.Author.Needs.{needs}
 use Rattle.meaning.specs.Answers.{Refusal, lowest}
@@ -29,10 +29,10 @@ enum-known-number : tie.Need-enum-known-number
 enum-known-number c = search needs
 
 returns : tie.Need-returns
-returns c = accepted-answer _ (onBoard _) (listed (audit _)) _ (sym (c .enum-told .given .1) ∙ checked (c .before .before))
+returns c = (accepted-answer _ (onBoard _) (listed (audit _)) _ (sym (c .enum-told .given .1) ∙ checked (c .before .before)), (refl, (refl, refl)))
 
 returns-2 : tie.Need-returns-2
-returns-2 c = refused-answer _ (onBoard _) (listed (audit _)) _ (sym (c .before .number .given .1) ∙ checked (c .before .before .before))
+returns-2 c = (refused-answer _ (onBoard _) (listed (audit _)) _ (sym (c .before .number .given .1) ∙ checked (c .before .before .before)), (refl, (refl, refl)))
 
 pub audit-spec : {M : Type 1} → statement M
 audit-spec = tie.close (tie.spec check-light-requires enum-told enum-known-number returns returns-2)

@@ -1,6 +1,6 @@
 -- `light_calls::post` meets its contract.
 -- Assumes nothing.
-use mathlib.Core.Path.{_≡_, sym, _∙_}
+use mathlib.Core.Path.{_≡_, refl, sym, _∙_}
 use borrow.Author.Needs.{needs}
 use Rattle.meaning.specs.Answers.{lowest}
 use Rattle.meaning.specs.Site.{siteOf}
@@ -42,7 +42,7 @@ returns : tie.Need-returns
 returns c =
     let worked = c .before .before in
     let at = worked .before .before .before in
-    (accepted-answer _ (onBoard _) (listed (post _)) _ (passes at), accepted-board _ (onBoard _) (post _) _ (passes at) _ (worked .post-work .ensures))
+    (accepted-answer _ (onBoard _) (listed (post _)) _ (passes at), (accepted-board _ (onBoard _) (post _) _ (passes at) _ (worked .post-work .ensures), (refl, refl)))
 
 same-length-2 : tie.Need-same-length-2
 same-length-2 c = search needs
@@ -50,7 +50,7 @@ same-length-2 c = search needs
 returns-2 : tie.Need-returns-2
 returns-2 c =
     let e = sym (c .before .n .given .1) ∙ c .before .before .before .check-light .ensures in
-    (refused-answer _ (onBoard _) (listed (post _)) _ e, refused-board _ (onBoard _) (listed (post _)) _ e)
+    (refused-answer _ (onBoard _) (listed (post _)) _ e, (refused-board _ (onBoard _) (listed (post _)) _ e, (refl, refl)))
 
 pub post-spec : {M : Type 1} → statement M
 post-spec =

@@ -74,8 +74,10 @@ returns c =
     let at = c .before .before .before .before .before .before .before .before .before .before .before .before .before .before in
     let a = start at .args in
     let searched = c .before .before .before .before .before in
+    let leaves =
     route-granted (a .file .now) (a .board .now) (a .out .now) (a .work .now) (a .tug) (a .start) (a .tick) (a .goal) _ (passes at) _ _ _ _
-    (sym (c .before .len .given .1) ∙ searched .find .ensures .0) (searched .find .ensures .1) (c .before .before .before .before .before .before .before .before .before .zero-words .ensures)
+    (sym (c .before .len .given .1) ∙ searched .find .ensures .0) (searched .find .ensures .1) (c .before .before .before .before .before .before .before .before .before .zero-words .ensures) in
+    (leaves .0, (leaves .1 .0, (leaves .1 .1, (refl, refl))))
 
 same-length-3 : tie.Need-same-length-3
 same-length-3 c = search needs
@@ -88,13 +90,18 @@ returns-2 c =
     let at = c .before .before .before .before .before .before .before .before .before .before .before .before .before in
     let a = start at .args in
     let searched = c .before .before .before .before in
+    let leaves =
     route-none (a .file .now) (a .board .now) (a .out .now) (a .work .now) (a .tug) (a .start) (a .tick) (a .goal) _ (passes at) _ _
-    (sym (c .enum-told .given .1) ∙ searched .find .ensures .0) (searched .find .ensures .1) (c .before .before .before .before .before .before .before .before .zero-words .ensures)
+    (sym (c .enum-told .given .1) ∙ searched .find .ensures .0) (searched .find .ensures .1) (c .before .before .before .before .before .before .before .before .zero-words .ensures) in
+    (leaves .0, (leaves .1 .0, (leaves .1 .1, (refl, refl))))
 
 returns-3 : tie.Need-returns-3
 returns-3 c =
     let a = c .before .before .before .before .before .before .before .before .args in
-    route-refused (a .file .now) (a .board .now) (a .out .now) (a .work .now) (a .tug) (a .start) (a .tick) (a .goal) _ (sym (c .before .n .given .1) ∙ c .before .before .before .check-route .ensures (a .out .now) (a .work .now) refl refl)
+    let leaves =
+    route-refused (a .file .now) (a .board .now) (a .out .now) (a .work .now) (a .tug) (a .start) (a .tick) (a .goal) _
+    (sym (c .before .n .given .1) ∙ c .before .before .before .check-route .ensures (a .out .now) (a .work .now) refl refl) in
+    (leaves .0, (leaves .1 .0, (leaves .1 .1, (refl, refl))))
 
 pub route-spec : {M : Type 1} → statement M
 route-spec =

@@ -70,7 +70,7 @@ returns c =
     let s = at .before .before .before .before .before .before in
     let a = s .args in
     changed-performed (a .file .now) (a .board .now) (a .out .now) (a .light) (close _ _ _ _) tt _ _ _ _ (ap (callBy (take (a .light) (a .out .now))) (at .o .given .1))
-    (called .close .ensures .0) (called .close .ensures .1) (c .changed .ensures) (s .pre .light-inside)
+    (called .close .ensures .0) (called .close .ensures .1 .0) (c .changed .ensures) (s .pre .light-inside)
 
 same-length-2 : tie.Need-same-length-2
 same-length-2 c = search needs
@@ -82,7 +82,7 @@ returns-2 c =
     let s = at .before .before .before .before .before .before in
     let a = s .args in
     changed-performed (a .file .now) (a .board .now) (a .out .now) (a .light) (withdraw _) tt _ _ _ _ (ap (callBy (take (a .light) (a .out .now))) (at .o2 .given .1))
-    (called .withdraw .ensures .0) (called .withdraw .ensures .1) (c .changed2 .ensures) (s .pre .light-inside)
+    (called .withdraw .ensures .0) (called .withdraw .ensures .1 .0) (c .changed2 .ensures) (s .pre .light-inside)
 
 same-length-3 : tie.Need-same-length-3
 same-length-3 c = search needs
@@ -117,7 +117,7 @@ returns-4 c =
     let s = at .before .before .before .before .before .before in
     let a = s .args in
     changed-performed (a .file .now) (a .board .now) (a .out .now) (a .light) (post _) tt _ _ _ _ (ap (callBy (take (a .light) (a .out .now))) (at .enum-told .given .1))
-    (called .post .ensures .0) (called .post .ensures .1) (c .changed3 .ensures) (s .pre .light-inside)
+    (called .post .ensures .0) (called .post .ensures .1 .0) (c .changed3 .ensures) (s .pre .light-inside)
 
 pub perform-spec : {M : Type 1} → statement M
 perform-spec =

@@ -52,7 +52,7 @@ returns c =
     let a = start at .args in
     let e = sym (c .enum-told .given .1) ∙ called .«open» .ensures .0 in (
       opened (a .file .now) (a .area .now) (at .board-need .result) (inside at) (part at) e,
-      opened-front (a .file .now) (a .area .now) (at .board-need .result) (inside at) (part at) e _ (called .«open» .ensures .1),
+      opened-front (a .file .now) (a .area .now) (at .board-need .result) (inside at) (part at) e _ (called .«open» .ensures .1 .0),
     )
 
 same-length-2 : tie.Need-same-length-2
