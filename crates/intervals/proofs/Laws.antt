@@ -107,7 +107,7 @@ module _ (p : ℕ → Bool) where
   length-numbers (i ∷ is) = let ih : length (numbersOf is) ≡ 2 * length is = length-numbers is in omega arith
 
   pub fits : (horizon : ℕ) → 2 * length (intervals p horizon) ≤ horizon + 2
-  fits horizon = omega (arith, length-numbers (intervals p horizon), intervals-right .fit p (plain horizon 0))
+  fits horizon = omega (arith, length-numbers (intervals p horizon), intervals-right .fit p horizon)
 
   -- ---- the loop: writing what is left from k intervals on leaves what writing them all leaves
 

@@ -5,9 +5,9 @@ use native.Mathlib.Omega.{arith}
 use mathlib.Core.Path.{_≡_, refl, sym, ap, ap₂, _∙_, subst}
 use mathlib.Core.Bool.{true, false, cond, and-false}
 use mathlib.Core.Option.{Option, none, some}
-use mathlib.Core.List.{List, [], _∷_, _++_, append-assoc}
+use mathlib.Core.List.{List, [], _∷_, _++_, append-assoc, append-nil}
 use lib.Dec.{leb, ltb, eqb}
-use lib.ListN.{length, getD, take, drop, replicate, length-drop, length-append, length-replicate}
+use lib.ListN.{length, getD, take, drop, replicate, length-take, length-drop, length-append, length-replicate}
 use lib.Seq.{take-all, length-take-le, take-nil, drop-drop, take-append-seam}
 use borrow.Author.Tests.{le-leb, lt-leb, leb-true, leb-false, ltb-true, ltb-false, lt-ltb, eqb-true, ne-eqb}
 use Rattle.meaning.specs.Limits.{routeSize, dayArea, dayWords}
@@ -20,8 +20,8 @@ use Rattle.meaning.specs.Plan.{Node}
 use Rattle.meaning.specs.Light.{encode}
 use Rattle.meaning.specs.Calls.{Call, route, audit, post, close, withdraw, opening, listed, bytesView, Lent, lends, onBoard, grantedLight, Done, acceptedDone, refusedDone, meant}
 use Rattle.meaning.specs.Day.{Line, Day, isField, callOf, dayDone, arrivalOf, lastLight, lineOf, dayAfter, lineThen, linesFrom, dayBoard, opened, dayLines, textOf, texts, dayText, decimalBy, decimal, numberIn, wanted, piece, lineNext, dayBy, dayNext, linesOn}
-use Rattle.meaning.specs.Laws.{ScriptField, Printed, ended, turned, DayRight}
-use Rattle.meaning.proofs.BasicsLaws.{decide, and-left, and-right, u16-back}
+use Rattle.meaning.specs.Laws.{ScriptField, Printed, ended, turned, DayPrinted, DayRight}
+use Rattle.meaning.proofs.BasicsLaws.{decide, options, and-left, and-right, u16-back}
 use Rattle.meaning.proofs.CallLaws.{meant-number, meant-by, meant-accepted, done-board}
 use Rattle.meaning.proofs.CheckLaws.{size-refused}
 use Rattle.meaning.proofs.SiteLaws.{read-site}
@@ -126,22 +126,6 @@ last-light file d tug a goal granted =
 
 -- ---- digits
 
-one-more : (before c : ℕ) (cs : List ℕ) → numberIn before (cs ++ (c ∷ [])) ≡ numberIn before cs * 10 + (c - 48)
-one-more before c [] = refl
-one-more before c (b ∷ cs) = one-more (before * 10 + (b - 48)) c cs
-
-digits-by : (k n : ℕ) → n < k → numberIn 0 (decimalBy k n) ≡ n
-digits-by zero n h = absurd (omega arith)
-digits-by (suc k) n h =
-    decide (ltb n 10)
-    (λ e. let small = ltb-true n 10 e in rw e (omega arith))
-    (λ e. let large = ltb-false n 10 e in
-    rw e (one-more 0 (48 + n % 10) (decimalBy k (n / 10)) ∙ rw (digits-by k (n / 10) (omega arith)) (omega arith)))
-
-digits : (n : ℕ) → numberIn 0 (decimal n) ≡ n
-unfolding decimal
-digits n = digits-by (suc n) n (omega arith)
-
 -- the first digit of a number that is not 0 is not 0
 getD-front : (xs ys : List ℕ) → 1 ≤ length xs → getD (xs ++ ys) 0 0 ≡ getD xs 0 0
 getD-front [] ys h = absurd (omega arith)
@@ -166,6 +150,22 @@ no-zero-by (suc k) n h pos e =
 no-leading-zero : (n : ℕ) → 1 ≤ n → getD (decimal n) 0 0 ≡ 48 → ⊥
 unfolding decimal
 no-leading-zero n pos e = no-zero-by (suc n) n (omega arith) pos e
+
+one-more : (before c : ℕ) (cs : List ℕ) → numberIn before (cs ++ (c ∷ [])) ≡ numberIn before cs * 10 + (c - 48)
+one-more before c [] = refl
+one-more before c (b ∷ cs) = one-more (before * 10 + (b - 48)) c cs
+
+digits-by : (k n : ℕ) → n < k → numberIn 0 (decimalBy k n) ≡ n
+digits-by zero n h = absurd (omega arith)
+digits-by (suc k) n h =
+    decide (ltb n 10)
+    (λ e. let small = ltb-true n 10 e in rw e (omega arith))
+    (λ e. let large = ltb-false n 10 e in
+    rw e (one-more 0 (48 + n % 10) (decimalBy k (n / 10)) ∙ rw (digits-by k (n / 10) (omega arith)) (omega arith)))
+
+digits : (n : ℕ) → numberIn 0 (decimal n) ≡ n
+unfolding decimal
+digits n = digits-by (suc n) n (omega arith)
 
 one-digit : (n : ℕ) → n < 10 → decimal n ≡ (48 + n) ∷ []
 unfolding decimal
@@ -264,17 +264,57 @@ printed file (turned {rest = rest} {text = text} {d = d} more) =
     ∙ sym (texts-append (lineNext file (fields (piece rest)) d) _)
     ∙ ap texts (sym (turn-by-turn file d rest))
 
-whole : (file script text : List ℕ) → meant file (onBoard (dayBoard file)) opening .number ≡ 0
-    → Printed file script (some (record { board = meant file (onBoard (dayBoard file)) opening .lent .board; light = [] })) text
-    → text ≡ dayText file script
-unfolding dayLines
-whole file script text z p =
-    printed file p ∙ ap (λ (n : ℕ). texts (opened file script (meant file (onBoard (dayBoard file)) opening) n)) (sym z)
+-- where the program goes on after a turn, the turn has read something
+piece-read : (file rest : List ℕ) (d e : Day) → dayNext file (fields (piece rest)) d ≡ some e → 1 ≤ length (piece rest)
+piece-read file [] d e goes =
+    let ends : dayNext file (fields (piece [])) d ≡ none = rw (take-nil (3 + wanted []), fields-end [] refl) refl in
+    absurd (let no : none ≡ some e = sym ends ∙ goes in let y : _≡_ {A = ℕ} 0 1 = cc in omega arith)
+piece-read file (t ∷ s) d e goes =
+    let more : 3 + wanted (t ∷ s) ≡ suc (2 + wanted (t ∷ s)) = omega arith in
+    rw more (omega arith)
 
-refused : (file script : List ℕ) (n : ℕ) → meant file (onBoard (dayBoard file)) opening .number ≡ suc n
-    → dayText file script ≡ textOf (record { number = suc n; edition = 0; arrival = 0 }) ++ []
-unfolding dayLines
-refused file script n e = ap (λ (k : ℕ). texts (opened file script (meant file (onBoard (dayBoard file)) opening) k)) e
+module _ (file : List ℕ) where
+  -- a turn, and the turns after it
+  turn-text : (rest : List ℕ) (d : Day)
+      → ((e : Day) → dayNext file (fields (piece rest)) d ≡ some e → (text : List ℕ) × Printed file (drop (length (piece rest)) rest) (some e) text)
+      → (text : List ℕ) × Printed file rest (some d) text
+  turn-text rest d more =
+      let line : List ℕ = texts (lineNext file (fields (piece rest)) d) in
+      let left : List ℕ = drop (length (piece rest)) rest in
+      options (dayNext file (fields (piece rest)) d)
+      (λ e. (line ++ [], turned (subst (λ (o : Option Day). Printed file left o []) (sym e) ended)))
+      (λ next e. let (text, p) = more next e in (line ++ text, turned (subst (λ (o : Option Day). Printed file left o text) (sym e) p)))
+
+  -- every script has a text: each turn leaves less of it
+  some-text : (k : ℕ) (rest : List ℕ) (d : Day) → length rest ≤ k → (text : List ℕ) × Printed file rest (some d) text
+  some-text zero rest d h =
+      turn-text rest d (λ e goes. absurd (let read = piece-read file rest d e goes in let part = length-take (3 + wanted rest) rest in omega arith))
+  some-text (suc k) rest d h =
+      turn-text rest d (λ e goes.
+      let read = piece-read file rest d e goes in
+      let left = length-drop (length (piece rest)) rest in
+      some-text k (drop (length (piece rest)) rest) e (omega arith))
+
+  abbrev start : Done
+  start = meant file (onBoard (dayBoard file)) opening
+
+  only-that : (script text : List ℕ) → DayPrinted file script text → text ≡ dayText file script
+  unfolding dayLines
+  only-that script text (DayPrinted.refused {n = n} e) =
+      sym (append-nil (textOf (record { number = suc n; edition = 0; arrival = 0 }))) ∙ ap (λ (k : ℕ). texts (opened file script start k)) (sym e)
+  only-that script text (DayPrinted.opened e p) = printed file p ∙ ap (λ (k : ℕ). texts (opened file script start k)) (sym e)
+
+  all-printed : (script : List ℕ) → DayPrinted file script (dayText file script)
+  all-printed script = by-number (start .number) refl
+    where
+      by-number : (n : ℕ) → start .number ≡ n → DayPrinted file script (dayText file script)
+      by-number zero e =
+          let (text, p) = some-text (length script) script (record { board = start .lent .board; light = [] }) (omega arith) in
+          let one : DayPrinted file script text = DayPrinted.opened e p in
+          subst (DayPrinted file script) (only-that script text one) one
+      by-number (suc n) e =
+          let one : DayPrinted file script (textOf (record { number = suc n; edition = 0; arrival = 0 })) = DayPrinted.refused e in
+          subst (DayPrinted file script) (only-that script _ one) one
 
 part-length : (n m : ℕ) → m < n → length (take n (replicate {A = ℕ} m 0)) ≡ m
 part-length n m h =
@@ -282,12 +322,12 @@ part-length n m h =
     ap length (take-all n (replicate m 0) (omega arith)) ∙ size
 
 too-large : (file script : List ℕ) (site : Site) → readSite file ≡ accepted site → 65536 < boardLength site
-    → dayText file script ≡ textOf (record { number = 7; edition = 0; arrival = 0 }) ++ []
+    → dayText file script ≡ textOf (record { number = 7; edition = 0; arrival = 0 })
 too-large file script site read large =
     let (clear, same) = read-site file site read in
     let more : dayArea < boardLength (siteOf file) = subst (λ (s : Site). dayArea < boardLength s) (sym same) large in
     let part : length (dayBoard file) ≡ dayArea = part-length (boardLength (siteOf file)) dayArea more in
-    refused file script 6 (meant-number file (onBoard (dayBoard file)) opening ∙ size-refused file (onBoard (dayBoard file)) clear (λ e. omega arith))
+    sym (only-that file script _ (DayPrinted.refused (meant-number file (onBoard (dayBoard file)) opening ∙ size-refused file (onBoard (dayBoard file)) clear (λ e. omega arith))))
 
 areas : (file : List ℕ) (d : Day) (c : Call) → dayDone file d c ≡ meant file (lends (d .board) (replicate 65536 0) (replicate 16384 0)) (listed c)
 unfolding dayDone
@@ -296,9 +336,9 @@ areas file d c = refl
 pub day-right : DayRight
 day-right = record {
   turn-by-turn = λ file script d. turn-by-turn file d script;
-  refused = refused;
+  printed = all-printed;
+  only-that = only-that;
   too-large = too-large;
-  whole = whole;
   calls = calls;
   all-calls = all-calls;
   areas = areas;

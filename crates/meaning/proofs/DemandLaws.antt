@@ -1,6 +1,6 @@
 -- Every desk that answers as the definitions do meets demands 1 and 2.
 -- Assumes nothing.
-use Prim.Native.Nat.{ℕ, zero, suc, _+_, _≤_, _<_}
+use Prim.Native.Nat.{ℕ, zero, suc, _+_, _*_, _≤_, _<_}
 use native.Mathlib.Omega.{arith}
 use mathlib.Core.Path.{_≡_, refl, sym, ap, _∙_, subst}
 use mathlib.Core.Bool.{Bool, true, false, cond, not}
@@ -19,7 +19,7 @@ use Rattle.meaning.specs.Plan.{Node, planPairs}
 use Rattle.meaning.specs.Reach.{Route}
 use Rattle.meaning.specs.Light.{Light, startOf, goalOf, encode, lightOf, decode}
 use Rattle.meaning.specs.Intervals.{Interval, intervals, numbersOf}
-use Rattle.meaning.specs.Calls.{route, audit, post, close, withdraw, PublicCall, opening, interval, listed, bytesView, lightValid, lightRoom, wordsNeeded, numbersRoom, lightRefusals, closeRefusals, withdrawRefusals, intervalRefusals, Lent, roomOf, withWordsZero, refusals, routeFound, grantedLight, changed, Done, acceptedDone, meant}
+use Rattle.meaning.specs.Calls.{route, audit, post, close, withdraw, PublicCall, opening, interval, listed, bytesView, lightValid, wordsNeeded, lightRefusals, closeRefusals, withdrawRefusals, intervalRefusals, Lent, roomOf, withWordsZero, refusals, routeFound, grantedLight, changed, Done, acceptedDone, meant}
 use Rattle.meaning.specs.PlainBoard.{hasPair}
 use Rattle.meaning.specs.ValidPlans.{Valid, Holds}
 use Rattle.meaning.specs.SafeIntervals.{AllSafeIntervals}
@@ -245,8 +245,8 @@ module _ (file : List ℕ) (l : Lent) where
       let (r, e) = granted-found file l tug a goal z in
       let x : Light = grantedLight site (bytesView site (l .board)) tug a goal in
       let steps : x .steps ≡ r .steps = ap (λ (o : Option Route). routeFound o .steps) e in
-      let fits : length (encode x) ≤ lightRoom site = search-right .fits site ok (free site (l .board)) a goal r e x steps in
-      let room : lightRoom site ≤ length (l .out) = ready .light-room in
+      let fits : length (encode x) ≤ 16 + 5 * site .horizon = search-right .fits site ok (free site (l .board)) a goal r e x steps in
+      let room : 16 + 5 * site .horizon ≤ length (l .out) = ready .light-room in
       let front : take (length (encode x)) (encode x ++ drop (length (encode x)) (l .out)) ≡ encode x =
       take-append-seam (encode x) (drop (length (encode x)) (l .out)) in
       rw is (
@@ -326,9 +326,9 @@ unfolding acceptedDone intervalRefusals
 reported file l cell z =
     let is : meant file l (interval cell) ≡ acceptedDone (siteOf file) l (interval cell) = meant-accepted file l (interval cell) z in
     let (h10, (h14, rest)) = accepted-parts file l (interval cell) z .later in
-    let room : numbersRoom (siteOf file) ≤ length (l .out) = leb-true _ _ (not-false _ h14) in
+    let room : siteOf file .horizon + 2 ≤ length (l .out) = leb-true _ _ (not-false _ h14) in
     let p : ℕ → Bool = free (siteOf file) (l .board) cell in
-    let fits : length (numbersOf (intervals p (siteOf file .horizon))) ≤ numbersRoom (siteOf file) = intervals-right .fit p (siteOf file) in
+    let fits : length (numbersOf (intervals p (siteOf file .horizon))) ≤ siteOf file .horizon + 2 = intervals-right .fit p (siteOf file .horizon) in
     rw is (
       intervals p (siteOf file .horizon),
       intervals-right .all-safe p (siteOf file .horizon),

@@ -12,6 +12,8 @@ pub mod LightLaws
 pub mod ReachLaws
 pub mod TraceLaws
 pub mod BoardLaws
+pub mod SentenceLaws
+pub mod BytesLaws
 pub mod PlainLaws
 pub mod CallLaws
 pub mod CheckLaws

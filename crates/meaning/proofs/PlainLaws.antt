@@ -7,7 +7,7 @@ use mathlib.Core.Path.{_≡_, refl, sym, ap, ap₂, _∙_, fun-ext}
 use mathlib.Core.Bool.{Bool, true, false, cond, not, true≢false}
 use mathlib.Core.List.{List, [], _∷_, _++_}
 use lib.Dec.{leb, ltb, eqb}
-use borrow.Author.Tests.{leb-true, ltb-true, eqb-true, eq-eqb, ne-eqb, not-true}
+use borrow.Author.Tests.{leb-true, le-leb, ltb-true, lt-ltb, eqb-true, eq-eqb, ne-eqb, not-true}
 use lib.ListN.{length, getD, take, drop, length-append, length-drop, replicate, length-replicate, getD-replicate, take-append-drop, List·getD-append}
 use lib.Seq.{getD-drop, getD-take, getD-append-add, ext-getD}
 use Rattle.meaning.specs.Limits.{header, lastEdition, lastClosure}
@@ -17,8 +17,9 @@ use Rattle.meaning.specs.Board.{free, stands, isHolder, boardLength, pla
 use Rattle.meaning.specs.Calls.{bytesView}
 use Rattle.meaning.specs.PlainBoard.{Entry, Plain, emptyPlain, hasPair, taken, holderAt, plainFree, hasEntry, plainView, without, withEntry, cellsFrom, bytesOf}
 use Rattle.meaning.specs.Demands.{Has}
-use Rattle.meaning.proofs.BasicsLaws.{decide, every-at, every-nil, every-cons, all-head, all-tail, any-at, any-from, any-here, any-there, any-case, any-nil, same-test, u32-back, length-tabulate, tabulate-at}
+use Rattle.meaning.proofs.BasicsLaws.{decide, every-at, every-nil, every-cons, all-head, all-tail, any-here, any-there, any-case, any-nil, same-test, u32-back, length-tabulate, tabulate-at}
 use Rattle.meaning.proofs.HolderLaws.{holders-right}
+use Rattle.meaning.proofs.BytesLaws.{tells-holder, tells-free, tells-stands}
 use Rattle.meaning.proofs.BoardLaws.{place-in, pair-at, length-edition, byte-edition, InSite, in-site, length-mark, byte-mark, length-clear, byte-clear}
 
 -- ---- entries
@@ -134,44 +135,32 @@ module _ (site : Site) (board : List ℕ) (p : Plain) (agree : Agree site board 
       simp (front-at 0 (omega arith), front-at 1 (omega arith), front-at 2 (omega arith), front-at 3 (omega arith))
       (u32-back (p .edition) (omega (arith, agree .fits)))
 
+  -- in no entry is the same as a byte 0, and having an entry as a byte of one's own
   same-free : free site board ≡ plainFree site (p .entries)
-  unfolding free plainFree every
-  same-free = fun-ext (λ c. fun-ext (λ t.
-      decide (ltb c (site .cells))
-      (λ hc. decide (leb t (site .horizon))
-      (λ ht. simp (agree .same-bytes c t (ltb-true _ _ hc) (leb-true _ _ ht), free-holder site (p .entries) c t (agree .clean)))
-      (λ ht. simp (hc, ht)))
-      (λ hc. simp hc)))
+  unfolding plainFree
+  same-free = fun-ext (λ c. fun-ext (λ t. same-test _ _
+      (λ e.
+      let (hc, ht, byte) = tells-free site board c t .then e in
+      let none : not (taken (p .entries) c t) ≡ true = sym (free-holder site (p .entries) c t (agree .clean)) ∙ eq-eqb _ 0 (sym (agree .same-bytes c t hc ht) ∙ byte) in
+      every-cons _ _ (lt-ltb c (site .cells) hc) (every-cons _ _ (le-leb t (site .horizon) ht) (every-cons _ _ none every-nil)))
+      (λ e.
+      let hc = ltb-true c (site .cells) (every-at _ e 0) in
+      let ht = leb-true t (site .horizon) (every-at _ e 1) in
+      let byte = agree .same-bytes c t hc ht ∙ eqb-true _ 0 (free-holder site (p .entries) c t (agree .clean) ∙ every-at _ e 2) in
+      tells-free site board c t .back (hc, ht, byte))))
+
+  same-stands : stands board ≡ hasEntry (p .entries)
+  same-stands = fun-ext (λ h. same-test _ _
+      (λ e.
+      let (known, (c, t, (hc, ht, byte))) = tells-stands site board (agree .sized) h .then e in
+      holder-entry site (p .entries) c t h (sym (agree .same-bytes c t hc ht) ∙ byte) (known .0))
+      (λ e.
+      let known = tells-holder h .then (entry-known site (p .entries) h (agree .clean) e) in
+      let (c, t, hc, ht, same) = entry-holder site (p .entries) h (agree .clean) (known .0) e in
+      tells-stands site board (agree .sized) h .back (known, (c, t, (hc, ht, agree .same-bytes c t hc ht ∙ same)))))
 
   rest-size : length (drop header board) ≡ site .cells * (site .horizon + 1)
   rest-size = length-drop header board ∙ ap (λ (n : ℕ). n - header) (agree .sized) ∙ omega arith
-
-  -- a holder's byte is an entry's
-  carried : (h : ℕ) → 1 ≤ h → any (λ (b : ℕ). eqb b h) (drop header board) ≡ true → hasEntry (p .entries) h ≡ true
-  carried h pos e =
-      let (i, lt, found) = any-at (λ (b : ℕ). eqb b h) (drop header board) 0 e in
-      let (c, t, hc, ht, same) = pair-at site i (omega (arith, rest-size)) in
-      let byte : byteAt site board c t ≡ h =
-      ap (λ (j : ℕ). getD board j 0) same ∙ sym (getD-drop header board i 0) ∙ eqb-true _ _ found in
-      holder-entry site (p .entries) c t h (sym (agree .same-bytes c t hc ht) ∙ byte) pos
-
-  entry-carried : (h : ℕ) → 1 ≤ h → hasEntry (p .entries) h ≡ true → any (λ (b : ℕ). eqb b h) (drop header board) ≡ true
-  entry-carried h pos e =
-      let (c, t, hc, ht, same) = entry-holder site (p .entries) h (agree .clean) pos e in
-      let j : ℕ = c * (site .horizon + 1) + t in
-      let inside : place site c t < boardLength site = place-in site c t hc ht in
-      let index : header + j ≡ place site c t = omega arith in
-      let byte : getD (drop header board) j 0 ≡ h =
-      getD-drop header board j 0 ∙ ap (λ (i : ℕ). getD board i 0) index ∙ agree .same-bytes c t hc ht ∙ same in
-      any-from (λ (b : ℕ). eqb b h) (drop header board) 0 j (omega (arith, rest-size)) (eq-eqb _ _ byte)
-
-  same-stands : stands board ≡ hasEntry (p .entries)
-  unfolding stands
-  same-stands = fun-ext (λ h. same-test _ _
-      (λ e. carried h (holder-pos h (every-at _ e 0)) (every-at _ e 1))
-      (λ e.
-      let known : isHolder h ≡ true = entry-known site (p .entries) h (agree .clean) e in
-      every-cons _ _ known (every-cons _ _ (entry-carried h (holder-pos h known) e) every-nil)))
 
   -- so the refusals read the same of both
   pub same-view : bytesView site board ≡ plainView site p

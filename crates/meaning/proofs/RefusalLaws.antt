@@ -1,20 +1,17 @@
--- The lists of refusals say what the paper says, number by number, and free and standing mean what they mean of a byte.
+-- The lists of refusals say what the paper says, number by number, of a board of bytes and of the plain board.
 -- Assumes nothing.
 use Prim.Native.Nat.{ℕ, suc, _+_, _*_, _-_, _≤_, _<_}
 use native.Mathlib.Omega.{arith}
 use mathlib.Core.Path.{_≡_, refl, sym, ap, ap₂, _∙_}
-use mathlib.Core.Bool.{Bool, true, false, not, false≢true, true≢false}
+use mathlib.Core.Bool.{true, false, not, false≢true, true≢false}
 use mathlib.Core.Option.{some}
 use mathlib.Core.List.{List, [], _∷_}
-use lib.Dec.{leb, ltb, eqb}
-use borrow.Author.Tests.{leb-true, le-leb, ltb-true, lt-ltb, eqb-true, eq-eqb, not-true, not-false}
-use lib.ListN.{length, getD, drop, length-drop}
-use lib.Seq.{getD-drop}
-use Rattle.meaning.specs.Limits.{header}
-use Rattle.meaning.specs.Basics.{every, any, all, Each, Some, Bytes, isNone}
-use Rattle.meaning.specs.Answers.{_if_}
+use lib.Dec.{leb, eqb}
+use borrow.Author.Tests.{eqb-true, eq-eqb, not-false}
+use lib.ListN.{length, getD}
+use Rattle.meaning.specs.Basics.{every, all, Each, Some, Bytes, isNone}
 use Rattle.meaning.specs.Site.{Site, stateAt}
-use Rattle.meaning.specs.Board.{Free, free, stands, isTug, isClosure, isHolder, boardLength, place, byteAt, Pair, runTo, allFree}
+use Rattle.meaning.specs.Board.{Free, free, stands, boardLength, Pair, runTo, allFree}
 use Rattle.meaning.specs.Plan.{Step, wait, move, Node, planEnd, planPairs}
 use Rattle.meaning.specs.Reach.{findRoute}
 use Rattle.meaning.specs.Light.{Light, startOf, goalOf, lightOf, isLight, decode}
@@ -22,117 +19,15 @@ use Rattle.meaning.specs.Calls.{Call, route, audit, post, close, withdra
 use Rattle.meaning.specs.PlainBoard.{Entry, Plain, hasPair, taken, plainFree, hasEntry, plainView}
 use Rattle.meaning.specs.ValidPlans.{Valid, Reached}
 use Rattle.meaning.specs.WellFormed.{WellFormed}
-use Rattle.meaning.specs.Refusals.{_says_, Told, Says, Not, Tug, Closure, Holder, HasByte, Stands, StepKnown, Sight, bytesSight, HasEntry, InEntry, InNone, plainSight, StartKnown, RunKnown, LightKnown, LightBytes, RouteRoom, callPaper, lightPaper, publicPaper, LightGiven, GivenBytes, CloseAccepted, LightAccepted, WithdrawAccepted, RouteAccepted, CallAccepted, BytesRight, PlainRight}
-use Rattle.meaning.proofs.BasicsLaws.{decide, every-at, every-nil, every-cons, options, any-at, any-from, some-any, any-some, all-at, all-each, each-all, allFrom-in, allFrom-true}
-use Rattle.meaning.proofs.HolderLaws.{holders-right}
+use Rattle.meaning.specs.Refusals.{_says_, Says, Not, StepKnown, Sight, bytesSight, HasEntry, InEntry, InNone, plainSight, StartKnown, RunKnown, LightKnown, LightBytes, RouteRoom, callPaper, lightPaper, publicPaper, LightGiven, GivenBytes, CloseAccepted, LightAccepted, WithdrawAccepted, RouteAccepted, CallAccepted, PlainRight}
+use Rattle.meaning.proofs.BasicsLaws.{every-at, every-nil, every-cons, options, any-at, some-any, any-some, all-at, all-each, each-all, allFrom-in, allFrom-true}
+use Rattle.meaning.proofs.SentenceLaws.{Tells, tells-not, misses, holds, fails, told, tells-le, tells-lt, tells-eq, tells-two, tells-three, tells-four}
+use Rattle.meaning.proofs.BytesLaws.{tells-tug, tells-closure, tells-holder, tells-free, tells-stands}
 use Rattle.meaning.proofs.LightLaws.{lights-right, decode-some, light-decode}
 use Rattle.meaning.proofs.PlanLaws.{plan-valid, valid-plan, held-pairs, run-free}
 use Rattle.meaning.proofs.TraceLaws.{search-right}
-use Rattle.meaning.proofs.BoardLaws.{place-in, pair-at}
 use Rattle.meaning.proofs.AnswersLaws.{Passed, rise-none, call-rise, lowest-clear}
 use Rattle.meaning.proofs.ListLaws.{light-free}
-
--- ---- tests and sentences
-
--- a test that holds exactly where a sentence does
-pub record Tells (b : Bool) (P : Type 0) : Type 0 where
-  pub then : b ≡ true → P
-  pub back : P → b ≡ true
-
--- its negation
-pub tells-not : {b : Bool} {P : Type 0} → Tells b P → Tells (not b) (Not P)
-tells-not {b} e = record {
-  then = λ n p. false≢true (sym (not-true b n) ∙ e .back p);
-  back = λ n. decide b (λ h. absurd (n (e .then h))) (λ h. ap not h);
-}
-
--- a test that did not apply, and one that did not apply negated
-misses : {b : Bool} {P : Type 0} → Tells b P → b ≡ false → Not P
-misses e h p = true≢false (sym (e .back p) ∙ h)
-
-holds : {b : Bool} {P : Type 0} → Tells b P → not b ≡ false → P
-holds {b} e h = e .then (not-false b h)
-
-fails : {b : Bool} {P : Type 0} → Tells b P → Not P → b ≡ false
-fails {b} e n = decide b (λ h. absurd (n (e .then h))) (λ h. h)
-
--- one entry
-pub told : (n : ℕ) {b : Bool} {P : Type 0} → Tells b P → Told (n if b) (n says P)
-told n e = record { same-number = refl; only-there = e .then; there = e .back }
-
-tells-le : (a b : ℕ) → Tells (leb a b) (a ≤ b)
-tells-le a b = record { then = leb-true a b; back = le-leb a b }
-
-tells-lt : (a b : ℕ) → Tells (ltb a b) (a < b)
-tells-lt a b = record { then = ltb-true a b; back = lt-ltb a b }
-
-tells-eq : (a b : ℕ) → Tells (eqb a b) (a ≡ b)
-tells-eq a b = record { then = eqb-true a b; back = eq-eqb a b }
-
-tells-two : {a b : Bool} {P Q : Type 0} → Tells a P → Tells b Q → Tells (every (a ∷ b ∷ [])) (P × Q)
-tells-two p q = record {
-  then = λ h. (p .then (every-at _ h 0), q .then (every-at _ h 1));
-  back = λ (x, y). every-cons _ _ (p .back x) (every-cons _ _ (q .back y) every-nil);
-}
-
-tells-three : {a b c : Bool} {P Q R : Type 0} → Tells a P → Tells b Q → Tells c R → Tells (every (a ∷ b ∷ c ∷ [])) (P × Q × R)
-tells-three p q r = record {
-  then = λ h. (p .then (every-at _ h 0), q .then (every-at _ h 1), r .then (every-at _ h 2));
-  back = λ (x, y, z). every-cons _ _ (p .back x) (every-cons _ _ (q .back y) (every-cons _ _ (r .back z) every-nil));
-}
-
-tells-four : {a b c d : Bool} {P Q R S : Type 0} → Tells a P → Tells b Q → Tells c R → Tells d S → Tells (every (a ∷ b ∷ c ∷ d ∷ [])) (P × Q × R × S)
-tells-four p q r s = record {
-  then = λ h. (p .then (every-at _ h 0), q .then (every-at _ h 1), r .then (every-at _ h 2), s .then (every-at _ h 3));
-  back = λ (x, y, z, w). every-cons _ _ (p .back x) (every-cons _ _ (q .back y) (every-cons _ _ (r .back z) (every-cons _ _ (s .back w) every-nil)));
-}
-
--- ---- holders
-
-tells-tug : (h : ℕ) → Tells (isTug h) (Tug h)
-tells-tug h = record { then = holders-right .tugs h; back = λ (lo, hi). holders-right .all-tugs h lo hi }
-
-tells-closure : (h : ℕ) → Tells (isClosure h) (Closure h)
-tells-closure h = record { then = holders-right .closures h; back = λ (lo, hi). holders-right .all-closures h lo hi }
-
-tells-holder : (h : ℕ) → Tells (isHolder h) (Holder h)
-tells-holder h = record { then = holders-right .holders h; back = λ (lo, hi). holders-right .all-holders h lo hi }
-
--- ---- bytes of a board
-
-module _ (site : Site) (board : List ℕ) where
-  tells-free : (c t : ℕ) → Tells (free site board c t) (HasByte site board 0 c t)
-  unfolding free
-  tells-free c t = tells-three (tells-lt c (site .cells)) (tells-le t (site .horizon)) (tells-eq (byteAt site board c t) 0)
-
-  module _ (size : length board ≡ boardLength site) where
-    carried : (h : ℕ) → any (λ (b : ℕ). eqb b h) (drop header board) ≡ true → (c : ℕ) × (t : ℕ) × HasByte site board h c t
-    carried h e =
-        let (i, lt, found) = any-at (λ (b : ℕ). eqb b h) (drop header board) 0 e in
-        let rest : length (drop header board) ≡ length board - header = length-drop header board in
-        let (c, t, hc, ht, there) = pair-at site i (omega arith) in
-        (c, t, (hc, ht, ap (λ (j : ℕ). getD board j 0) there ∙ sym (getD-drop header board i 0) ∙ eqb-true _ _ found))
-
-    all-carried : (h c t : ℕ) → HasByte site board h c t → any (λ (b : ℕ). eqb b h) (drop header board) ≡ true
-    all-carried h c t (hc, ht, e) =
-        let i : ℕ = c * (site .horizon + 1) + t in
-        let inside : place site c t < boardLength site = place-in site c t hc ht in
-        let there : header + i ≡ place site c t = omega arith in
-        let rest : length (drop header board) ≡ length board - header = length-drop header board in
-        any-from (λ (b : ℕ). eqb b h) (drop header board) 0 i (omega arith)
-        (eq-eqb _ h (getD-drop header board i 0 ∙ ap (λ (j : ℕ). getD board j 0) there ∙ e))
-
-    tells-stands : (h : ℕ) → Tells (stands board h) (Stands site board h)
-    unfolding stands
-    tells-stands h = tells-two (tells-holder h) (record { then = carried h; back = λ (c, t, e). all-carried h c t e })
-
-pub bytes-right : BytesRight
-bytes-right = record {
-  free-pairs = λ site board c t. tells-free site board c t .then;
-  all-free-pairs = λ site board c t. tells-free site board c t .back;
-  standing = λ site board size h. tells-stands site board size h .then;
-  all-standing = λ site board size h. tells-stands site board size h .back;
-}
 
 -- ---- 10, 14, 17 and 18
 

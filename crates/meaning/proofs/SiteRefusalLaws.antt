@@ -22,7 +22,8 @@ use Rattle.meaning.proofs.FieldsLaws.{fields-of, bytes-of}
 use Rattle.meaning.proofs.MotionLaws.{good-motion}
 use Rattle.meaning.proofs.SiteFieldsLaws.{IsState, IsMotion, state-parts, motion-parts, layout-states, layout-enough, layout-motions, laid-out, motions-laid, laid-motions, head-good, good-head}
 use Rattle.meaning.proofs.SiteLaws.{motions-well, written-read}
-use Rattle.meaning.proofs.RefusalLaws.{Tells, tells-not, told, later-says}
+use Rattle.meaning.proofs.SentenceLaws.{Tells, tells-not, told}
+use Rattle.meaning.proofs.RefusalLaws.{later-says}
 
 -- ---- 1 and 2
 
@@ -146,14 +147,18 @@ unfolding refusals siteRefusals
 board-says file l q =
     (told 7 (tells-not (record { then = eqb-true (length (l .board)) (boardLength (siteOf file)); back = eq-eqb (length (l .board)) (boardLength (siteOf file)) })), tt)
 
-in-order : (file : List ℕ) (l : Lent) (q : PublicCall)
-    → refusals file l q ≡ siteRefusals file ++ (take 1 (drop 6 (refusals file l q)) ++ laterRefusals (siteOf file) l q)
+first-six : (file : List ℕ) (l : Lent) (q : PublicCall) → take 6 (refusals file l q) ≡ siteRefusals file
 unfolding refusals siteRefusals
-in-order file l q = refl
+first-six file l q = refl
+
+after-seven : (file : List ℕ) (l : Lent) (q : PublicCall) → drop 7 (refusals file l q) ≡ laterRefusals (siteOf file) l q
+unfolding refusals siteRefusals
+after-seven file l q = refl
 
 pub refusals-say : RefusalsSay
 refusals-say = record {
-  order = in-order;
+  first-six = first-six;
+  after-seven = after-seven;
   file = file-says;
   fields = fields-say;
   read = written-read;

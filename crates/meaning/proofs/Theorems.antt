@@ -4,7 +4,8 @@ use Rattle.meaning.specs.Laws.{RefusalsRise, HoldersRight, SitesRight, L
 use Rattle.meaning.specs.Refusals.{RefusalsSay, BytesRight, PlainRight}
 use Rattle.meaning.specs.Demands.{Desk, Exact, meantDesk, Demand1, Demand2, Demand3}
 use Rattle.meaning.proofs.AnswersLaws.{refusals-rise}
-use Rattle.meaning.proofs.RefusalLaws.{bytes-right, plain-right}
+use Rattle.meaning.proofs.BytesLaws.{bytes-right}
+use Rattle.meaning.proofs.RefusalLaws.{plain-right}
 use Rattle.meaning.proofs.SiteRefusalLaws.{refusals-say}
 use Rattle.meaning.proofs.HolderLaws.{holders-right}
 use Rattle.meaning.proofs.SiteLaws.{sites-right}

@@ -16,7 +16,7 @@ use Rattle.meaning.specs.Board.{Free}
 use Rattle.meaning.specs.Plan.{Step, wait, move, Node, allowed, after, walk, node as at}
 use Rattle.meaning.specs.Reach.{rowsTo, reached, wordIn, waitOne, trace, Route, findRoute}
 use Rattle.meaning.specs.Light.{Light, encode}
-use Rattle.meaning.specs.Calls.{stepNamed, lightRoom}
+use Rattle.meaning.specs.Calls.{stepNamed}
 use Rattle.meaning.specs.ValidPlans.{Leads, Valid, Reached, StepTo, Traced, begun, took-wait, took-motion, mergeWaits}
 use Rattle.meaning.specs.WellFormed.{WellFormed, InLayout}
 use Rattle.meaning.specs.Laws.{SearchRight}
@@ -234,7 +234,7 @@ found-steps site well f a goal r h =
 -- ---- the search is right
 
 route-fits : (site : Site) → WellFormed site → (f : Free) (a : Node) (goal : ℕ) (r : Route) → findRoute site f a goal ≡ some r
-    → (l : Light) → l .steps ≡ r .steps → length (encode l) ≤ lightRoom site
+    → (l : Light) → l .steps ≡ r .steps → length (encode l) ≤ 16 + 5 * site .horizon
 route-fits site well f a goal r h l same =
     let (laid, named, few, in-time) = found-steps site well f a goal r h in
     let size : length (encode l) ≡ 16 + 5 * length (l .steps) = length-encode l in

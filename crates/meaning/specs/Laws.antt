@@ -15,7 +15,7 @@ use Rattle.meaning.specs.Plan.{Step, Node, planEnd, planPairs}
 use Rattle.meaning.specs.Reach.{reachWord, Route, findRoute}
 use Rattle.meaning.specs.Light.{Light, encode, decode}
 use Rattle.meaning.specs.Intervals.{intervals, numbersOf}
-use Rattle.meaning.specs.Calls.{Call, route, audit, post, close, withdraw, PublicCall, opening, listed, Lent, lends, onBoard, bytesView, numbersRoom, lightRoom, refusals, grantedLight, meant}
+use Rattle.meaning.specs.Calls.{Call, route, audit, post, close, withdraw, PublicCall, opening, listed, Lent, lends, onBoard, bytesView, refusals, grantedLight, meant}
 use Rattle.meaning.specs.PlainBoard.{hasPair}
 use Rattle.meaning.specs.Day.{Day, callOf, dayDone, lineOf, dayAfter, linesFrom, dayBoard, decimal, numberIn, textOf, texts, dayText, piece, lineNext, dayNext, linesOn}
 use Rattle.meaning.specs.ValidPlans.{Valid, Reached, Arrival, Holds, Traced, mergeWaits}
@@ -76,12 +76,12 @@ pub record SearchRight : Type 0 where
   pub one-trace : (site : Site) (f : Free) (a b : Node) (back other : List Step) → Traced site f a b back → Traced site f a b other → back ≡ other
   -- every light of the steps fits the output area
   pub fits : (site : Site) → WellFormed site → (f : Free) (a : Node) (goal : ℕ) (r : Route) → findRoute site f a goal ≡ some r
-      → (l : Light) → l .steps ≡ r .steps → length (encode l) ≤ lightRoom site
+      → (l : Light) → l .steps ≡ r .steps → length (encode l) ≤ 16 + 5 * site .horizon
 
 -- what the interval call writes: all safe intervals and only those, in no more numbers than the area must have
 pub record IntervalsRight : Type 0 where
   pub all-safe : (p : ℕ → Bool) (horizon : ℕ) → AllSafeIntervals p horizon (intervals p horizon)
-  pub fit : (p : ℕ → Bool) (site : Site) → length (numbersOf (intervals p (site .horizon))) ≤ numbersRoom site
+  pub fit : (p : ℕ → Bool) (horizon : ℕ) → length (numbersOf (intervals p horizon)) ≤ horizon + 2
 
 -- handover: at each tick before its arrival a valid plan holds some one cell at that tick and the next
 pub record HandoverRight : Type 0 where
@@ -114,20 +114,25 @@ pub data Printed (file : List ℕ) : List ℕ → Option Day → List ℕ → Ty
       → Printed file (drop (length (piece rest)) rest) (dayNext file (fields (piece rest)) d) text
       → Printed file rest (some d) (texts (lineNext file (fields (piece rest)) d) ++ text)
 
+-- what the program prints: the line of a refused open, or the turns one after the other, on the opened board and with no light yet
+pub data DayPrinted (file script : List ℕ) : List ℕ → Type 0 where
+  refused : {n : ℕ} → meant file (onBoard (dayBoard file)) opening .number ≡ suc n
+      → DayPrinted file script (textOf (record { number = suc n; edition = 0; arrival = 0 }))
+  opened : {text : List ℕ} → meant file (onBoard (dayBoard file)) opening .number ≡ 0
+      → Printed file script (some (record { board = meant file (onBoard (dayBoard file)) opening .lent .board; light = [] })) text
+      → DayPrinted file script text
+
 pub record DayRight : Type 0 where
   -- it may read its script turn by turn: no more than a header, and the value that a call may have
   pub turn-by-turn : (file script : List ℕ) (d : Day)
       → linesFrom file (fields script) d
       ≡ lineNext file (fields (piece script)) d ++ linesOn file (drop (length (piece script)) script) (dayNext file (fields (piece script)) d)
-  -- a refused open prints its number; after an accepted one the turns, one after the other, print the text of the whole script
-  pub refused : (file script : List ℕ) (n : ℕ) → meant file (onBoard (dayBoard file)) opening .number ≡ suc n
-      → dayText file script ≡ textOf (record { number = suc n; edition = 0; arrival = 0 }) ++ []
+  -- the opening and the turns, one after the other, print the text of the whole script, and no other
+  pub printed : (file script : List ℕ) → DayPrinted file script (dayText file script)
+  pub only-that : (file script text : List ℕ) → DayPrinted file script text → text ≡ dayText file script
   -- a site whose board is larger than the area meets 7
   pub too-large : (file script : List ℕ) (site : Site) → readSite file ≡ accepted site → 65536 < 4 + site .cells * (site .horizon + 1)
-      → dayText file script ≡ textOf (record { number = 7; edition = 0; arrival = 0 }) ++ []
-  pub whole : (file script text : List ℕ) → meant file (onBoard (dayBoard file)) opening .number ≡ 0
-      → Printed file script (some (record { board = meant file (onBoard (dayBoard file)) opening .lent .board; light = [] })) text
-      → text ≡ dayText file script
+      → dayText file script ≡ textOf (record { number = 7; edition = 0; arrival = 0 })
   -- a field makes a call exactly when it is that call's: another tag or length makes none
   pub calls : (light : List ℕ) (f : Field) (c : Call) → Bytes (f .value) → callOf light f ≡ some c → ScriptField light c f
   pub all-calls : (light : List ℕ) (f : Field) (c : Call) → ScriptField light c f → callOf light f ≡ some c

@@ -1,10 +1,10 @@
 -- The worked site 'Four in line' and its cases, as one statement about the definitions, from the 100 bytes of its site file.
 -- Assumes nothing.
-use Prim.Native.Nat.{ℕ, zero, suc}
+use Prim.Native.Nat.{ℕ, zero, suc, _/_, _%_}
 use mathlib.Core.Path.{_≡_}
 use mathlib.Core.Option.{Option, none, some}
 use mathlib.Core.List.{List, [], _∷_, _++_}
-use lib.ListN.{length, take, replicate}
+use lib.ListN.{length, replicate}
 use Rattle.meaning.specs.Answers.{Answer, accepted, refused}
 use Rattle.meaning.specs.Fields.{Field, fieldsBytes}
 use Rattle.meaning.specs.Site.{siteOf, readSite}
@@ -13,6 +13,7 @@ use Rattle.meaning.specs.Plan.{Step, wait, move, Node, node}
 use Rattle.meaning.specs.Reach.{Route}
 use Rattle.meaning.specs.Light.{Light, decode}
 use Rattle.meaning.specs.Calls.{route, post, close, PublicCall, opening, interval, listed, lends, Done, meant}
+use Rattle.meaning.specs.Demands.{lightOut}
 use Rattle.meaning.specs.Day.{Line, dayLines, dayText}
 use Rattle.meaning.specs.EarliestOnly.{earliestNumber}
 
@@ -50,13 +51,9 @@ closed h c first last board = boardOf (called board (listed (close h c first las
 unfoldable pub posted : List ℕ → List ℕ → List ℕ
 posted light board = boardOf (called board (listed (post light)))
 
--- the bytes that a grant writes
-abbrev pub lightIn : List ℕ → List ℕ → List ℕ
-lightIn [] out = []
-lightIn (n ∷ values) out = take n out
-
+-- the bytes that a grant of tug 7 writes
 unfoldable pub lightFor : List ℕ → Node → ℕ → List ℕ
-lightFor board a goal = let d : Done = called board (listed (route 7 a goal)) in lightIn (d .values) (d .lent .out)
+lightFor board a goal = lightOut (called board (listed (route 7 a goal)))
 
 -- tug 7's route: the steps and the arrival of the light that it writes, or its number
 abbrev pub found : List Step → ℕ → Answer Route
@@ -140,6 +137,17 @@ sized tag n = fieldsBytes (record { tag = tag; value = replicate n 1 } ∷ [])
 abbrev pub script : List ℕ
 script = fieldsBytes (closing ∷ routing ∷ posting ∷ [])
 
+-- sites for the day program's areas: H, C, S standing states of cell 0, no motion
+abbrev pub bareSite : ℕ → ℕ → ℕ → List ℕ
+bareSite horizon cells states =
+    fieldsBytes (
+    record { tag = 1; value = horizon / 256 ∷ horizon % 256 ∷ cells ∷ states / 256 ∷ states % 256 ∷ [] }
+    ∷ replicate states (record { tag = 2; value = 0 ∷ 0 ∷ [] }))
+
+-- a route of tug 7 from state 0 at the tick to state 0
+abbrev pub staying : ℕ → List ℕ
+staying tick = fieldsBytes (record { tag = 34; value = 7 ∷ 0 ∷ 0 ∷ tick / 256 ∷ tick % 256 ∷ 0 ∷ 0 ∷ [] } ∷ [])
+
 abbrev pub line : ℕ → ℕ → ℕ → Line
 line n e t = record { number = n; edition = e; arrival = t }
 
@@ -206,6 +214,13 @@ pub record Computed : Type 0 where
   -- a closure after the grant: the light is of an older edition
   pub day-stale : dayLines siteFile (fieldsBytes (closing ∷ routing ∷ record { tag = 32; value = 201 ∷ 0 ∷ 0 ∷ 12 ∷ 0 ∷ 12 ∷ [] } ∷ posting ∷ []))
       ≡ line 0 1 0 ∷ line 0 1 10 ∷ line 0 2 0 ∷ line 16 2 0 ∷ []
+  -- boards of 255,259, 65,537 and 65,536 bytes in an area of 65,536
+  pub day-board-largest : dayLines (bareSite 1000 255 1) (staying 0) ≡ line 7 0 0 ∷ []
+  pub day-board-65537 : dayLines (bareSite 922 71 1) (staying 922) ≡ line 7 0 0 ∷ []
+  pub day-board-65536 : dayLines (bareSite 507 129 1) (staying 507) ≡ line 0 0 507 ∷ []
+  -- searches of 17,000 and of 16,384 words in one of 16,384
+  pub day-words-17000 : dayLines (bareSite 999 1 17) (staying 999) ≡ line 14 0 0 ∷ []
+  pub day-words-16384 : dayLines (bareSite 511 1 32) (staying 511) ≡ line 0 0 511 ∷ []
   -- other lengths
   pub day-close-5 : dayLines siteFile (sized 32 5) ≡ line 99 0 0 ∷ []
   pub day-close-7 : dayLines siteFile (sized 32 7) ≡ line 99 0 0 ∷ []
