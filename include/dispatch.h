@@ -6,6 +6,14 @@
  * number alone and leaves all that was lent as it was, but for 18: a completed search without a plan leaves
  * the working words that it needs zero.
  *
+ * A caller sees to this, and to nothing else: each area has the length that is given with it; areas that
+ * are lent to one call do not overlap, but for two that the call only reads; uint16_t and uint32_t areas
+ * are aligned for their elements, to 2 and to 4 bytes. An area of length 0 may be a null pointer.
+ *
+ * A call keeps nothing between calls and takes no memory but the stack: dispatch_route up to 600,000 bytes,
+ * dispatch_audit and dispatch_post up to 40,000 (a light of 1,000 steps is read by recursion), the others
+ * up to 4,000. So calls from several threads need no lock, as long as none writes what another is lent.
+ *
  * What each call returns and writes is proved: crates/dispatch_c/src/lib.rt has the contracts, and
  * crates/dispatch_c/specs/Words.antt says how a word is read. The archive is libdispatch_c.a. */
 #ifndef DISPATCH_H

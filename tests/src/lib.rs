@@ -6,7 +6,9 @@
 //! - `plain_board`: the plain board of document 01, on `literal`.
 //! - `gen`: seeded sites, boards, lights and calls.
 //! - `day`: what the day program must print.
+//! - `c`: programs in C over the archive.
 
+pub mod c;
 pub mod day;
 pub mod desk;
 pub mod four;
