@@ -68,18 +68,21 @@ pub fn item_at(s: &[u8], at: usize) -> Item
     })
 }
 
-pub fn new<'a>(bytes: &'a [u8], at: usize) -> Reader<'a>
-    ensures { λ r. ⌜ (r .bytes ≡ bytes .entry) × (r .at ≡ at) ⌝ }
+// A reader at the first byte.
+pub fn new<'a>(bytes: &'a [u8]) -> Reader<'a>
+    ensures { λ r. ⌜ (r .bytes ≡ bytes .entry) × (r .at ≡ 0) ⌝ }
 {
-    Reader { bytes, at }
+    Reader { bytes, at: 0 }
 }
 
+// What stands at the reader's position.
 pub fn next<'a>(r: Reader<'a>) -> Item
     ensures { λ s. ⌜ s ≡ itemOf (now (r .entry .bytes)) (r .entry .at) ⌝ }
 {
     item_at(r.bytes, r.at)
 }
 
+// The reader at another position.
 pub fn moved<'a>(r: Reader<'a>, at: usize) -> Reader<'a>
     ensures { λ q. ⌜ (q .bytes ≡ r .entry .bytes) × (q .at ≡ at) ⌝ }
 {
@@ -90,7 +93,7 @@ pub fn moved<'a>(r: Reader<'a>, at: usize) -> Reader<'a>
 pub fn read_item(s: &[u8], at: usize) -> Item
     ensures { λ r. ⌜ r ≡ itemOf (now (s .entry)) at ⌝ }
 {
-    next(new(s, at))
+    next(moved(new(s), at))
 }
 
 // No field of the bytes is cut.
