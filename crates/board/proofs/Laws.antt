@@ -1,26 +1,72 @@
 -- Laws of loops over the board's bytes.
 -- Assumes nothing.
-use Prim.Native.Nat.{ℕ, suc, _+_, _*_, _-_, _<_, _≤_}
+use Prim.Native.Nat.{ℕ, zero, suc, _+_, _*_, _-_, _<_, _≤_}
 use native.Mathlib.Omega.{arith}
-use mathlib.Core.Path.{_≡_, refl, sym, ap, ap₂, _∙_}
-use mathlib.Core.Bool.{Bool, true, false, cond, _&&_, _||_, and-true}
+use mathlib.Core.Path.{_≡_, refl, sym, ap, ap₂, subst, _∙_}
+use mathlib.Core.Bool.{Bool, true, false, cond, _&&_, _||_, and-true, and-false, and-or-distrib-left}
+use mathlib.Core.Logic.{inl, inr}
 use mathlib.Core.List.{List, [], _∷_, _++_, map, append-nil}
-use borrow.Author.Tests.{lt-ltb, le-leb}
-use lib.Dec.{eqb}
+use borrow.Author.Tests.{eqb-true, lt-ltb, le-leb}
+use denote.Enum.Declared.{tagOf}
+use types.Run.{OneOf}
+use lib.Dec.{leb, eqb}
 use lib.ListN.{length, replicate, take, drop, getD, set, drop-of-length-le}
 use lib.Seq.{drop-length, drop-cons, append-snoc, take-all, take-suc-set, drop-set-lt, sets-eq}
 use native.Mathlib.Numerals.{add-one}
-use Rattle.meaning.specs.Limits.{header}
-use Rattle.meaning.specs.Basics.{every, any, allFrom}
+use Rattle.meaning.specs.Limits.{lastTug, lastClosure, header}
+use Rattle.meaning.specs.Basics.{every, any, allFrom, Each}
 use Rattle.meaning.specs.Site.{Site}
-use Rattle.meaning.specs.Board.{Sort, sortOf, isHolder, stands, place, free, run, runTo, mark}
+use Rattle.meaning.specs.Board.{Sort, nobody, tug, closure, unknown, sortOf, isHolder, stands, place, free, run, runTo, mark}
 use Rattle.board.specs.Holders.{sortCase}
 use Rattle.board.specs.declared.Holder.{Holder}
+use Rattle.board.specs.declared.Holder.the-variants.{Free, Tug, Closure, Unknown}
+use Rattle.board.proofs.Holder.{the-type}
+use Rattle.meaning.proofs.BasicsLaws.{decide}
 
 -- ---- an arm of a match on a byte's sort
 
-pub arm : (test : Sort → Bool) (h : ℕ) (k j : Holder) → k ≡ j → sortCase k ≡ sortOf h → test (sortCase j) ≡ test (sortOf h)
-arm test h k j told sorted = ap (λ (x : Holder). test (sortCase x)) (sym told) ∙ ap test sorted
+-- what holds of each of an arm's keys holds of the one that is met
+at-key : (P : ℕ → Type 0) (keys : List ℕ) (x : ℕ) → Each P keys → OneOf keys x → P x
+at-key P [] x each e = absurd e
+at-key P (k ∷ []) x each e = subst P (sym e) (each .0)
+at-key P (k ∷ j ∷ keys) x each (inl e) = subst P (sym e) (each .0)
+at-key P (k ∷ j ∷ keys) x each (inr e) = at-key P (j ∷ keys) x (each .1) e
+
+-- the keys of a match on a `Holder` are the numbers of its cases
+abbrev keySort : ℕ → Sort
+keySort zero = nobody
+keySort (suc zero) = tug
+keySort (suc (suc zero)) = closure
+keySort (suc (suc (suc n))) = unknown
+
+key-sort : (k : Holder) → keySort (tagOf the-type k) ≡ sortCase k
+key-sort Free = refl
+key-sort Tug = refl
+key-sort Closure = refl
+key-sort Unknown = refl
+
+-- an arm's answer is the test's if it is so for each of the sorts that the arm takes
+pub arm : (test : Sort → Bool) (answer : Bool) (keys : List ℕ) (b : ℕ) (k : Holder)
+    → Each (λ (n : ℕ). answer ≡ test (keySort n)) keys → OneOf keys (tagOf the-type k) → sortCase k ≡ sortOf b → answer ≡ test (sortOf b)
+arm test answer keys b k each met sorted =
+    at-key (λ (n : ℕ). answer ≡ test (keySort n)) keys _ each met ∙ ap test (key-sort k ∙ sorted)
+
+-- a byte sorts as free where it is 0
+abbrev pub freeSort : Sort → Bool
+freeSort nobody = true
+freeSort tug = false
+freeSort closure = false
+freeSort unknown = false
+
+free-cases : (zero? low? known? : Bool) → freeSort (cond zero? nobody (cond low? tug (cond known? closure unknown))) ≡ zero?
+free-cases true _ _ = refl
+free-cases false true _ = refl
+free-cases false false true = refl
+free-cases false false false = refl
+
+pub free-sort : (b : ℕ) → freeSort (sortOf b) ≡ eqb b 0
+unfolding sortOf
+free-sort b = free-cases (eqb b 0) (leb b lastTug) (leb b lastClosure)
 
 -- ---- four stores at the front
 
@@ -42,14 +88,22 @@ any-more p l i false lt = rw (add-one i, drop-cons l i 0 lt)
 
 -- ---- standing
 
--- what is not a holder's number does not stand, and a holder's stands where a byte from header on carries it
-pub stands-no : (board : List ℕ) (h : ℕ) → isHolder h ≡ false → stands board h ≡ false
-unfolding stands every
-stands-no board h e = simp e
+-- a byte that carries h sorts as h does
+carry : (h b : ℕ) → (isHolder b && eqb b h) ≡ (isHolder h && eqb b h)
+carry h b =
+    decide (eqb b h)
+    (λ e. ap (λ (x : ℕ). isHolder x && eqb b h) (eqb-true b h e))
+    (λ e. rw e (and-false (isHolder b) ∙ sym (and-false (isHolder h))))
 
-pub stands-any : (board : List ℕ) (h : ℕ) → isHolder h ≡ true → stands board h ≡ any (λ (b : ℕ). eqb b h) (drop header board)
+any-carry : (h : ℕ) (l : List ℕ) → any (λ (b : ℕ). isHolder b && eqb b h) l ≡ (isHolder h && any (λ (b : ℕ). eqb b h) l)
+unfolding any
+any-carry h [] = sym (and-false (isHolder h))
+any-carry h (b ∷ l) = ap₂ _||_ (carry h b) (any-carry h l) ∙ sym (and-or-distrib-left (isHolder h) (eqb b h) _)
+
+-- so h stands where a byte from header on sorts as a holder and is h
+pub stands-any : (board : List ℕ) (h : ℕ) → stands board h ≡ any (λ (b : ℕ). isHolder b && eqb b h) (drop header board)
 unfolding stands every
-stands-any board h e = simp e (and-true _)
+stands-any board h = ap (λ (t : Bool). isHolder h && t) (and-true _) ∙ sym (any-carry h (drop header board))
 
 -- ---- ticks of a cell
 

@@ -1,6 +1,6 @@
 // The board: how a byte sorts, the edition, which ticks of a cell are free, who stands, and what is written.
 ghost use mathlib.Core.Path.{_≡_};
-ghost use mathlib.Core.Bool.{cond};
+ghost use mathlib.Core.Bool.{cond, _&&_};
 ghost use Prim.Native.Nat.{_<_, _≤_};
 ghost use lib.Dec.{eqb};
 ghost use lib.ListN.{length, replicate};
@@ -34,15 +34,23 @@ pub fn sort(b: u8) -> Holder
     }
 }
 
+// A byte whose pair nobody holds.
+pub fn is_free_byte(b: u8) -> bool
+    ensures { λ r. ⌜ r ≡ eqb b 0 ⌝ }
+{
+    match sort(b) {
+        Holder::Free => true,
+        _ => false,
+    }
+}
+
 // A tug's number, 1 to 199.
 pub fn is_tug(h: u8) -> bool
     ensures { λ r. ⌜ r ≡ isTug h ⌝ }
 {
     match sort(h) {
-        Holder::Free => false,
         Holder::Tug => true,
-        Holder::Closure => false,
-        Holder::Unknown => false,
+        _ => false,
     }
 }
 
@@ -51,10 +59,8 @@ pub fn is_closure(h: u8) -> bool
     ensures { λ r. ⌜ r ≡ isClosure h ⌝ }
 {
     match sort(h) {
-        Holder::Free => false,
-        Holder::Tug => false,
         Holder::Closure => true,
-        Holder::Unknown => false,
+        _ => false,
     }
 }
 
@@ -63,10 +69,18 @@ pub fn is_holder(h: u8) -> bool
     ensures { λ r. ⌜ r ≡ isHolder h ⌝ }
 {
     match sort(h) {
-        Holder::Free => false,
-        Holder::Tug => true,
-        Holder::Closure => true,
-        Holder::Unknown => false,
+        Holder::Tug | Holder::Closure => true,
+        _ => false,
+    }
+}
+
+// Does the byte carry the holder's number? A byte that sorts as free or unknown carries none.
+fn carries(b: u8, h: u8) -> bool
+    ensures { λ r. ⌜ r ≡ (isHolder b && eqb b h) ⌝ }
+{
+    match sort(b) {
+        Holder::Tug | Holder::Closure => b == h,
+        _ => false,
     }
 }
 
@@ -122,13 +136,10 @@ pub fn holder_stands(board: &[u8], h: u8) -> bool
     requires { ⌜ header ≤ length (now board) ⌝ }
     ensures { λ r. ⌜ r ≡ stands (now (board .entry)) h ⌝ }
 {
-    if !is_holder(h) {
-        return false;
-    }
     let mut found = false;
     let mut at = HEADER;
     while at < board.len() {
-        found = found | (board[at] == h);
+        found = found | carries(board[at], h);
         at += 1;
     }
     found
@@ -163,7 +174,7 @@ pub fn is_free(board: &[u8], horizon: usize, cell: usize, tick: usize) -> bool
     requires { ⌜ Row (length (now board)) horizon cell tick ⌝ }
     ensures { λ r. ⌜ ((site : Site) → site .horizon ≡ horizon → cell < site .cells → r ≡ free site (now (board .entry)) cell tick) ⌝ }
 {
-    board[HEADER + cell * (horizon + 1) + tick] == 0
+    is_free_byte(board[HEADER + cell * (horizon + 1) + tick])
 }
 
 // Is the cell free from the tick first to the tick last, both included?

@@ -9,7 +9,7 @@ use mathlib.Core.List.{List}
 use lib.Pow.{pow-mono}
 use lib.Dec.{ltb, leb, eqb}
 use lib.ListN.{length, getD, set, replicate, length-replicate}
-use borrow.Author.Tests.{ltb-true, ltb-false, le-leb, eqb-true, eqb-false, ne-eqb}
+use borrow.Author.Tests.{ltb-true, ltb-false, le-leb, eqb-true, eqb-false}
 use Rattle.meaning.specs.Basics.{every}
 use Rattle.meaning.specs.Site.{Site}
 use Rattle.meaning.specs.Board.{free}
@@ -66,14 +66,6 @@ free-all b s n left w h e =
     let p : s + left ≡ s = omega arith in
     let q : n - left ≡ n = omega arith in
     e ∙ ap₂ (λ (x y : ℕ). freeWord b x y) p q
-
-pub bit-free : (x : ℕ) → x ≡ 0 → (1 ≡ freeBit x) × (1 ≤ 1)
-unfolding freeBit
-bit-free x e = (rw e, omega arith)
-
-pub bit-held : (x : ℕ) → (x ≡ 0 → ⊥) → (0 ≡ freeBit x) × (0 ≤ 1)
-unfolding freeBit
-bit-held x e = (rw (ne-eqb x 0 e), omega arith)
 
 -- bytes of 0 alone
 pub zero-all : (b : List ℕ) (s i all : ℕ) → 64 ≤ i → (all ≡ 0 → ZeroFrom b s i) → all ≡ 0 → ZeroFrom b s 64

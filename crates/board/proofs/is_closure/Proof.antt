@@ -1,5 +1,8 @@
--- `board::is_closure` meets its contract: each arm answers for the sort of its case.
+-- `board::is_closure` meets its contract: each arm answers for the sorts of its cases.
 -- Assumes nothing.
+use mathlib.Core.Path.{refl}
+use mathlib.Core.Bool.{true, false}
+use mathlib.Core.List.{[], _∷_}
 use borrow.Author.Needs.{needs}
 use Rattle.meaning.specs.Board.{closureSort, isClosure}
 use Rattle.board.proofs.Laws.{arm}
@@ -12,41 +15,13 @@ sort-requires c κs = search needs
 enum-told : tie.Need-enum-told
 enum-told c = search needs
 
-enum-told-2 : tie.Need-enum-told-2
-enum-told-2 c = search needs
-
-enum-told-3 : tie.Need-enum-told-3
-enum-told-3 c = search needs
-
-enum-told-4 : tie.Need-enum-told-4
-enum-told-4 c = search needs
-
 returns : tie.Need-returns
 unfolding isClosure
-returns c = arm closureSort _ _ _ (c .enum-told .given .1) (c .before .before .sort .ensures)
+returns c = let s = c .before .before .sort in arm closureSort true (2 ∷ []) _ (s .result) (refl, tt) (c .before .match .keys1) (s .ensures)
 
 returns-2 : tie.Need-returns-2
 unfolding isClosure
-returns-2 c = arm closureSort _ _ _ (c .enum-told2 .given .1) (c .before .before .sort .ensures)
-
-returns-3 : tie.Need-returns-3
-unfolding isClosure
-returns-3 c = arm closureSort _ _ _ (c .enum-told3 .given .1) (c .before .before .sort .ensures)
-
-returns-4 : tie.Need-returns-4
-unfolding isClosure
-returns-4 c = arm closureSort _ _ _ (c .enum-told4 .given .1) (c .before .before .sort .ensures)
+returns-2 c = let s = c .before .sort in arm closureSort false (0 ∷ 1 ∷ 3 ∷ []) _ (s .result) (refl, (refl, (refl, tt))) (c .match .keys2) (s .ensures)
 
 pub is-closure-spec : {M : Type 1} → statement M
-is-closure-spec =
-    tie.close
-    (tie.spec
-    sort-requires
-    enum-told
-    enum-told-2
-    enum-told-3
-    enum-told-4
-    returns
-    returns-2
-    returns-3
-    returns-4)
+is-closure-spec = tie.close (tie.spec sort-requires enum-told returns returns-2)

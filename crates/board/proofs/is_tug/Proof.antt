@@ -1,5 +1,8 @@
--- `board::is_tug` meets its contract: each arm answers for the sort of its case.
+-- `board::is_tug` meets its contract: each arm answers for the sorts of its cases.
 -- Assumes nothing.
+use mathlib.Core.Path.{refl}
+use mathlib.Core.Bool.{true, false}
+use mathlib.Core.List.{[], _∷_}
 use borrow.Author.Needs.{needs}
 use Rattle.meaning.specs.Board.{tugSort, isTug}
 use Rattle.board.proofs.Laws.{arm}
@@ -12,41 +15,13 @@ sort-requires c κs = search needs
 enum-told : tie.Need-enum-told
 enum-told c = search needs
 
-enum-told-2 : tie.Need-enum-told-2
-enum-told-2 c = search needs
-
-enum-told-3 : tie.Need-enum-told-3
-enum-told-3 c = search needs
-
-enum-told-4 : tie.Need-enum-told-4
-enum-told-4 c = search needs
-
 returns : tie.Need-returns
 unfolding isTug
-returns c = arm tugSort _ _ _ (c .enum-told .given .1) (c .before .before .sort .ensures)
+returns c = let s = c .before .before .sort in arm tugSort true (1 ∷ []) _ (s .result) (refl, tt) (c .before .match .keys1) (s .ensures)
 
 returns-2 : tie.Need-returns-2
 unfolding isTug
-returns-2 c = arm tugSort _ _ _ (c .enum-told2 .given .1) (c .before .before .sort .ensures)
-
-returns-3 : tie.Need-returns-3
-unfolding isTug
-returns-3 c = arm tugSort _ _ _ (c .enum-told3 .given .1) (c .before .before .sort .ensures)
-
-returns-4 : tie.Need-returns-4
-unfolding isTug
-returns-4 c = arm tugSort _ _ _ (c .enum-told4 .given .1) (c .before .before .sort .ensures)
+returns-2 c = let s = c .before .sort in arm tugSort false (0 ∷ 2 ∷ 3 ∷ []) _ (s .result) (refl, (refl, (refl, tt))) (c .match .keys2) (s .ensures)
 
 pub is-tug-spec : {M : Type 1} → statement M
-is-tug-spec =
-    tie.close
-    (tie.spec
-    sort-requires
-    enum-told
-    enum-told-2
-    enum-told-3
-    enum-told-4
-    returns
-    returns-2
-    returns-3
-    returns-4)
+is-tug-spec = tie.close (tie.spec sort-requires enum-told returns returns-2)

@@ -1,14 +1,27 @@
 -- `frees::free_bit` meets its contract: by cases of the byte.
 -- Assumes nothing.
-use Rattle.frees.proofs.FreeLaws.{bit-free, bit-held}
+use Prim.Native.Nat.{ℕ}
+use native.Mathlib.Omega.{arith}
+use mathlib.Core.Path.{sym, ap, _∙_}
+use mathlib.Core.Bool.{Bool, cond}
+use borrow.Author.Needs.{needs}
+use Rattle.frees.specs.Frees.{freeBit}
 use Rattle.frees.proofs.free_bit.Statement.{statement}
 use Rattle.frees.proofs.free_bit.Tie as tie
 
+abbrev bit : Bool → ℕ
+bit free = cond free 1 0
+
+is-free-byte-requires : tie.Need-is-free-byte-requires
+is-free-byte-requires c κs = search needs
+
 returns : tie.Need-returns
-returns c = bit-free _ (c .if1 .taken)
+unfolding freeBit
+returns c = (ap bit (sym (c .if1 .taken) ∙ c .before .is-free-byte .ensures), omega arith)
 
 returns-2 : tie.Need-returns-2
-returns-2 c = bit-held _ (c .if1 .left)
+unfolding freeBit
+returns-2 c = (ap bit (sym (c .if1 .left) ∙ c .before .is-free-byte .ensures), omega arith)
 
 pub free-bit-spec : {M : Type 1} → statement M
-free-bit-spec = tie.close (tie.spec returns returns-2)
+free-bit-spec = tie.close (tie.spec is-free-byte-requires returns returns-2)

@@ -1,0 +1,24 @@
+-- `board::is_free_byte` meets its contract: each arm answers for the sorts of its cases, and the free byte is 0.
+-- Assumes nothing.
+use mathlib.Core.Path.{refl, _∙_}
+use mathlib.Core.Bool.{true, false}
+use mathlib.Core.List.{[], _∷_}
+use borrow.Author.Needs.{needs}
+use Rattle.board.proofs.Laws.{arm, freeSort, free-sort}
+use Rattle.board.proofs.is_free_byte.Statement.{statement}
+use Rattle.board.proofs.is_free_byte.Tie as tie
+
+sort-requires : tie.Need-sort-requires
+sort-requires c κs = search needs
+
+enum-told : tie.Need-enum-told
+enum-told c = search needs
+
+returns : tie.Need-returns
+returns c = let s = c .before .before .sort in arm freeSort true (0 ∷ []) _ (s .result) (refl, tt) (c .before .match .keys1) (s .ensures) ∙ free-sort _
+
+returns-2 : tie.Need-returns-2
+returns-2 c = let s = c .before .sort in arm freeSort false (1 ∷ 2 ∷ 3 ∷ []) _ (s .result) (refl, (refl, (refl, tt))) (c .match .keys2) (s .ensures) ∙ free-sort _
+
+pub is-free-byte-spec : {M : Type 1} → statement M
+is-free-byte-spec = tie.close (tie.spec sort-requires enum-told returns returns-2)
