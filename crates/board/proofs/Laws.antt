@@ -47,8 +47,8 @@ key-sort Unknown = refl
 
 -- an arm's answer is the test's if it is so for each of the sorts that the arm takes
 pub arm : (test : Sort → Bool) (answer : Bool) (keys : List ℕ) (b : ℕ) (k : Holder)
-    → Each (λ (n : ℕ). answer ≡ test (keySort n)) keys → OneOf keys (tagOf the-type k) → sortCase k ≡ sortOf b → answer ≡ test (sortOf b)
-arm test answer keys b k each met sorted =
+    → OneOf keys (tagOf the-type k) → sortCase k ≡ sortOf b → Each (λ (n : ℕ). answer ≡ test (keySort n)) keys → answer ≡ test (sortOf b)
+arm test answer keys b k met sorted each =
     at-key (λ (n : ℕ). answer ≡ test (keySort n)) keys _ each met ∙ ap test (key-sort k ∙ sorted)
 
 -- a byte sorts as free where it is 0

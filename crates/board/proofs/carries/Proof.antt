@@ -23,14 +23,14 @@ unfolding isHolder
 returns c =
     let a = c .before .before .args in
     let s = c .before .sort in
-    arm (carried (a .b) (a .h)) (eqb (a .b) (a .h)) (1 ∷ 2 ∷ []) _ (s .result) (refl, (refl, tt)) (c .match .keys1) (s .ensures)
+    arm (carried (a .b) (a .h)) (eqb (a .b) (a .h)) (1 ∷ 2 ∷ []) _ (s .result) (c .match .keys1) (s .ensures) (refl, (refl, tt))
 
 returns-2 : tie.Need-returns-2
 unfolding isHolder
 returns-2 c =
     let a = c .before .before .args in
     let s = c .before .sort in
-    arm (carried (a .b) (a .h)) false (0 ∷ 3 ∷ []) _ (s .result) (refl, (refl, tt)) (c .match .keys2) (s .ensures)
+    arm (carried (a .b) (a .h)) false (0 ∷ 3 ∷ []) _ (s .result) (c .match .keys2) (s .ensures) (refl, (refl, tt))
 
 pub carries-spec : {M : Type 1} → statement M
 carries-spec = tie.close (tie.spec sort-requires returns returns-2)

@@ -17,11 +17,11 @@ enum-told c = search needs
 
 returns : tie.Need-returns
 unfolding isClosure
-returns c = let s = c .before .before .sort in arm closureSort true (2 ∷ []) _ (s .result) (refl, tt) (c .before .match .keys1) (s .ensures)
+returns c = let s = c .before .before .sort in arm closureSort true (2 ∷ []) _ (s .result) (c .before .match .keys1) (s .ensures) (refl, tt)
 
 returns-2 : tie.Need-returns-2
 unfolding isClosure
-returns-2 c = let s = c .before .sort in arm closureSort false (0 ∷ 1 ∷ 3 ∷ []) _ (s .result) (refl, (refl, (refl, tt))) (c .match .keys2) (s .ensures)
+returns-2 c = let s = c .before .sort in arm closureSort false (0 ∷ 1 ∷ 3 ∷ []) _ (s .result) (c .match .keys2) (s .ensures) (refl, (refl, (refl, tt)))
 
 pub is-closure-spec : {M : Type 1} → statement M
 is-closure-spec = tie.close (tie.spec sort-requires enum-told returns returns-2)

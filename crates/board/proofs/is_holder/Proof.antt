@@ -14,11 +14,11 @@ sort-requires c κs = search needs
 
 returns : tie.Need-returns
 unfolding isHolder
-returns c = let s = c .before .sort in arm holderSort true (1 ∷ 2 ∷ []) _ (s .result) (refl, (refl, tt)) (c .match .keys1) (s .ensures)
+returns c = let s = c .before .sort in arm holderSort true (1 ∷ 2 ∷ []) _ (s .result) (c .match .keys1) (s .ensures) (refl, (refl, tt))
 
 returns-2 : tie.Need-returns-2
 unfolding isHolder
-returns-2 c = let s = c .before .sort in arm holderSort false (0 ∷ 3 ∷ []) _ (s .result) (refl, (refl, tt)) (c .match .keys2) (s .ensures)
+returns-2 c = let s = c .before .sort in arm holderSort false (0 ∷ 3 ∷ []) _ (s .result) (c .match .keys2) (s .ensures) (refl, (refl, tt))
 
 pub is-holder-spec : {M : Type 1} → statement M
 is-holder-spec = tie.close (tie.spec sort-requires returns returns-2)

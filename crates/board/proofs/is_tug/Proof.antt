@@ -17,11 +17,11 @@ enum-told c = search needs
 
 returns : tie.Need-returns
 unfolding isTug
-returns c = let s = c .before .before .sort in arm tugSort true (1 ∷ []) _ (s .result) (refl, tt) (c .before .match .keys1) (s .ensures)
+returns c = let s = c .before .before .sort in arm tugSort true (1 ∷ []) _ (s .result) (c .before .match .keys1) (s .ensures) (refl, tt)
 
 returns-2 : tie.Need-returns-2
 unfolding isTug
-returns-2 c = let s = c .before .sort in arm tugSort false (0 ∷ 2 ∷ 3 ∷ []) _ (s .result) (refl, (refl, (refl, tt))) (c .match .keys2) (s .ensures)
+returns-2 c = let s = c .before .sort in arm tugSort false (0 ∷ 2 ∷ 3 ∷ []) _ (s .result) (c .match .keys2) (s .ensures) (refl, (refl, (refl, tt)))
 
 pub is-tug-spec : {M : Type 1} → statement M
 is-tug-spec = tie.close (tie.spec sort-requires enum-told returns returns-2)
