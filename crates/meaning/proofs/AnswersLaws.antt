@@ -7,11 +7,11 @@ use mathlib.Core.Bool.{true, false}
 use mathlib.Core.List.{List, [], _∷_, _++_}
 use lib.Dec.{leb}
 use borrow.Author.Tests.{leb-true}
-use Rattle.meaning.specs.Basics.{all, Each}
+use Rattle.meaning.specs.Basics.{all, Each, Some, here, there}
 use Rattle.meaning.specs.Answers.{Refusal, lowest, RiseFrom, accepted, answer}
 use Rattle.meaning.specs.Site.{Site, siteRefusals}
 use Rattle.meaning.specs.Calls.{Call, route, audit, post, close, withdraw, PublicCall, opening, interval, listed, View, bytesView, Room, Lent, roomOf, routeRefusals, lightRefusals, closeRefusals, withdrawRefusals, callRefusals, intervalRefusals, laterRefusals, refusals}
-use Rattle.meaning.specs.Laws.{RefusalsRise}
+use Rattle.meaning.specs.Laws.{LowestRight, RefusalsRise}
 use Rattle.meaning.proofs.BasicsLaws.{decide, all-head, all-tail, each-map}
 
 -- it does not apply
@@ -64,6 +64,22 @@ rise-before n (r ∷ rs) (lt, rise) k e =
           (λ x above below. absurd (omega arith)) rs (rise-above (r .number) rs rise),
     ))
     (λ q. (λ below. q, rise-before (r .number) rs rise k (sym (lowest-miss r rs q) ∙ e)))
+
+-- and it is one of the list
+lowest-applies : (rs : List Refusal) (n : ℕ) → lowest rs ≡ suc n → Some (λ (r : Refusal). (r .number ≡ suc n) × (r .applies ≡ true)) rs
+lowest-applies [] n e = absurd (let none = lowest-clear [] tt in omega arith)
+lowest-applies (r ∷ rs) n e =
+    decide (r .applies)
+    (λ q. here (sym (lowest-hit r rs q) ∙ e, q))
+    (λ q. there (lowest-applies rs n (sym (lowest-miss r rs q) ∙ e)))
+
+pub lowest-right : LowestRight
+lowest-right = record {
+  none = lowest-none;
+  all-none = lowest-clear;
+  applies = lowest-applies;
+  no-lower = λ rs rise. rise-before 0 rs rise (lowest rs) refl;
+}
 
 -- and the number is at most the largest
 pub lowest-most : (m : ℕ) (rs : List Refusal) → all (λ (r : Refusal). leb (r .number) m) rs ≡ true → lowest rs ≤ m

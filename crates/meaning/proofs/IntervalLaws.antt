@@ -218,4 +218,4 @@ module _ (p : ℕ → Bool) where
     fits = let (most, fewer) = few (suc horizon) 0 in omega arith
 
 pub intervals-right : IntervalsRight
-intervals-right = record { all-safe = all-safe; fit = fits }
+intervals-right = record { all-safe = all-safe; numbers = λ first last is. refl; fit = fits }

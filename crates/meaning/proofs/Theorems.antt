@@ -1,9 +1,9 @@
 -- All theorems about the definitions, each as it is stated in specs/.
 -- Assumes nothing.
-use Rattle.meaning.specs.Laws.{RefusalsRise, HoldersRight, SitesRight, LightsRight, PlansRight, SearchRight, IntervalsRight, HandoverRight, DayRight}
+use Rattle.meaning.specs.Laws.{LowestRight, RefusalsRise, HoldersRight, SitesRight, LightsRight, PlansRight, SearchRight, IntervalsRight, HandoverRight, DayRight}
 use Rattle.meaning.specs.Refusals.{RefusalsSay, BytesRight, PlainRight}
 use Rattle.meaning.specs.Demands.{Desk, Exact, meantDesk, Demand1, Demand2, Demand3}
-use Rattle.meaning.proofs.AnswersLaws.{refusals-rise}
+use Rattle.meaning.proofs.AnswersLaws.{lowest-right, refusals-rise}
 use Rattle.meaning.proofs.BytesLaws.{bytes-right}
 use Rattle.meaning.proofs.RefusalLaws.{plain-right}
 use Rattle.meaning.proofs.SiteRefusalLaws.{refusals-say}
@@ -21,6 +21,7 @@ use Rattle.meaning.proofs.ListLaws.{exact-demand3}
 -- ---- the laws of specs/Laws.antt and specs/Refusals.antt
 
 pub record AllLaws : Type 0 where
+  pub lowest : LowestRight
   pub rise : RefusalsRise
   pub say : RefusalsSay
   pub bytes : BytesRight
@@ -36,6 +37,7 @@ pub record AllLaws : Type 0 where
 
 pub all-laws : AllLaws
 all-laws = record {
+  lowest = lowest-right;
   rise = refusals-rise;
   say = refusals-say;
   bytes = bytes-right;

@@ -9,7 +9,7 @@ use lib.ListN.{length, getD, take, replicate}
 use Rattle.meaning.specs.Basics.{Each, Some, Bytes}
 use Rattle.meaning.specs.Answers.{Clears, lowest, accepted}
 use Rattle.meaning.specs.Site.{Site, siteOf, readSite}
-use Rattle.meaning.specs.Board.{free, boardLength, byteAt, edition}
+use Rattle.meaning.specs.Board.{free, byteAt, edition}
 use Rattle.meaning.specs.Plan.{Step, Node}
 use Rattle.meaning.specs.Light.{Light, startOf, goalOf, decode}
 use Rattle.meaning.specs.Intervals.{Interval, numbersOf}
@@ -74,7 +74,7 @@ pub record Demand1 (desk : Desk) : Type 0 where
       × Written (replicate (length (siteOf file .states) * (siteOf file .horizon + 1)) 0) (l .words) (d .lent .words)
   -- what an accepted call writes, and what it was accepted for: first of all, a light is posted on its own edition or not at all
   pub opened : (file : List ℕ) (l : Lent) (d : Done) → desk file l opening d → d .number ≡ 0
-      → OnlyBoard l d × (d .lent .board ≡ replicate (boardLength (siteOf file)) 0)
+      → OnlyBoard l d × (d .lent .board ≡ replicate (4 + siteOf file .cells * (siteOf file .horizon + 1)) 0)
   pub opens : (file : List ℕ) (site : Site) → readSite file ≡ accepted site
       → (l : Lent) → length (l .board) ≡ 4 + site .cells * (site .horizon + 1)
       → (d : Done) → desk file l opening d → d .number ≡ 0

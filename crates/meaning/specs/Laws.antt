@@ -6,15 +6,15 @@ use mathlib.Core.Bool.{Bool, true, false}
 use mathlib.Core.Option.{Option, none, some}
 use mathlib.Core.List.{List, [], _∷_, _++_}
 use lib.ListN.{length, getD, take, drop, replicate}
-use Rattle.meaning.specs.Basics.{Bytes, put16}
-use Rattle.meaning.specs.Answers.{RiseFrom, accepted}
+use Rattle.meaning.specs.Basics.{Each, Some, Bytes, put16}
+use Rattle.meaning.specs.Answers.{Refusal, lowest, RiseFrom, accepted}
 use Rattle.meaning.specs.Fields.{Field, fields}
 use Rattle.meaning.specs.Site.{Site, siteOf, readSite}
 use Rattle.meaning.specs.Board.{Free, edition, isTug, isClosure, isHolder}
 use Rattle.meaning.specs.Plan.{Step, Node, planEnd, planPairs}
 use Rattle.meaning.specs.Reach.{reachWord, Route, findRoute}
 use Rattle.meaning.specs.Light.{Light, encode, decode}
-use Rattle.meaning.specs.Intervals.{intervals, numbersOf}
+use Rattle.meaning.specs.Intervals.{Interval, intervals, numbersOf}
 use Rattle.meaning.specs.Calls.{Call, route, audit, post, close, withdraw, PublicCall, opening, listed, Lent, lends, onBoard, bytesView, refusals, grantedLight, meant}
 use Rattle.meaning.specs.PlainBoard.{hasPair}
 use Rattle.meaning.specs.Day.{Day, callOf, dayDone, lineOf, dayAfter, linesFrom, dayBoard, decimal, numberIn, textOf, texts, dayText, piece, lineNext, dayNext, linesOn}
@@ -25,6 +25,13 @@ use Rattle.meaning.specs.WellFormed.{WellFormed, fileOf, KeepsLayout}
 -- the numbers of every call's list rise, so that the first that applies is the lowest
 pub record RefusalsRise : Type 0 where
   pub rise : (file : List ℕ) (l : Lent) (q : PublicCall) → RiseFrom 0 (refusals file l q)
+
+-- the number that a rising list tells: 0 exactly where none applies, and else one that applies while no lower one does
+pub record LowestRight : Type 0 where
+  pub none : (rs : List Refusal) → RiseFrom 0 rs → lowest rs ≡ 0 → Each (λ (r : Refusal). r .applies ≡ false) rs
+  pub all-none : (rs : List Refusal) → Each (λ (r : Refusal). r .applies ≡ false) rs → lowest rs ≡ 0
+  pub applies : (rs : List Refusal) (n : ℕ) → lowest rs ≡ suc n → Some (λ (r : Refusal). (r .number ≡ suc n) × (r .applies ≡ true)) rs
+  pub no-lower : (rs : List Refusal) → RiseFrom 0 rs → Each (λ (r : Refusal). r .number < lowest rs → r .applies ≡ false) rs
 
 -- the holders of 9, at each end; 255 is no holder
 pub record HoldersRight : Type 0 where
@@ -81,6 +88,8 @@ pub record SearchRight : Type 0 where
 -- what the interval call writes: all safe intervals and only those, in no more numbers than the area must have
 pub record IntervalsRight : Type 0 where
   pub all-safe : (p : ℕ → Bool) (horizon : ℕ) → AllSafeIntervals p horizon (intervals p horizon)
+  -- the first and the last tick of each, one after the other
+  pub numbers : (first : ℕ) (last : ℕ) (is : List Interval) → numbersOf (record { first = first; last = last } ∷ is) ≡ first ∷ last ∷ numbersOf is
   pub fit : (p : ℕ → Bool) (horizon : ℕ) → length (numbersOf (intervals p horizon)) ≤ horizon + 2
 
 -- handover: at each tick before its arrival a valid plan holds some one cell at that tick and the next
