@@ -103,10 +103,6 @@ lowest-front (x ∷ xs) ys n e some =
     (λ q. lowest-hit x (xs ++ ys) q ∙ sym (lowest-hit x xs q) ∙ e)
     (λ q. lowest-miss x (xs ++ ys) q ∙ lowest-front xs ys n (sym (lowest-miss x xs q) ∙ e) some)
 
-pub each-append : (P : Refusal → Type 0) (xs ys : List Refusal) → Each P (xs ++ ys) → Each P xs × Each P ys
-each-append P [] ys h = (tt, h)
-each-append P (x ∷ xs) ys (e, h) = let (left, right) = each-append P xs ys h in ((e, left), right)
-
 -- ---- what a reader answers
 
 pub answer-accepted : {A : Type 0} (a x : A) (n : ℕ) → answer a n ≡ accepted x → (n ≡ 0) × (a ≡ x)

@@ -251,6 +251,10 @@ pub each-map : {A : Type 0} (P Q : A → Type 0) → ((x : A) → P x → Q x) �
 each-map P Q f [] h = tt
 each-map P Q f (x ∷ xs) (h, k) = (f x h, each-map P Q f xs k)
 
+pub each-append : {A : Type 0} (P : A → Type 0) (xs ys : List A) → Each P (xs ++ ys) → Each P xs × Each P ys
+each-append P [] ys h = (tt, h)
+each-append P (x ∷ xs) ys (e, h) = let (left, right) = each-append P xs ys h in ((e, left), right)
+
 -- two tests that hold in the same cases are equal
 pub same-test : (x y : Bool) → (x ≡ true → y ≡ true) → (y ≡ true → x ≡ true) → x ≡ y
 same-test true y f g = sym (f refl)

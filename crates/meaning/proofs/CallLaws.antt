@@ -20,8 +20,8 @@ use Rattle.meaning.specs.Light.{encode}
 use Rattle.meaning.specs.Calls.{Call, route, audit, post, close, withdraw, PublicCall, opening, interval, listed, View, bytesView, startNamed, lightRoom, wordsNeeded, routeRefusals, Lent, roomOf, over, withWordsZero, laterRefusals, refusals, grantedLight, changed, Done, acceptedDone, refusedDone, doneBy, meant}
 use Rattle.meaning.specs.PlainBoard.{Seen, seenBy}
 use Rattle.meaning.specs.Demands.{Written, lightOut}
-use Rattle.meaning.proofs.BasicsLaws.{decide, every-at}
-use Rattle.meaning.proofs.AnswersLaws.{Passed, lowest-hit, lowest-miss, lowest-clear, lowest-none, rise-before, lowest-append, each-append, all-rise}
+use Rattle.meaning.proofs.BasicsLaws.{decide, every-at, each-append}
+use Rattle.meaning.proofs.AnswersLaws.{Passed, lowest-hit, lowest-miss, lowest-clear, lowest-none, rise-before, lowest-append, all-rise}
 use Rattle.meaning.proofs.SiteLaws.{site-read}
 
 -- ---- areas

@@ -1,15 +1,15 @@
--- Laws of the day program: turn by turn, the last granted light, and digits.
+-- Laws of the day program: turn by turn, and the call of a field.
 -- Assumes nothing.
-use Prim.Native.Nat.{ℕ, zero, suc, _+_, _-_, _*_, _/_, _%_, _≤_, _<_}
+use Prim.Native.Nat.{ℕ, zero, suc, _+_, _-_, _*_, _≤_, _<_}
 use native.Mathlib.Omega.{arith}
 use mathlib.Core.Path.{_≡_, refl, sym, ap, ap₂, _∙_, subst}
-use mathlib.Core.Bool.{true, false, cond, and-false}
+use mathlib.Core.Bool.{true, false, and-false}
 use mathlib.Core.Option.{Option, none, some}
 use mathlib.Core.List.{List, [], _∷_, _++_, append-assoc, append-nil}
-use lib.Dec.{leb, ltb, eqb}
-use lib.ListN.{length, getD, take, drop, replicate, length-take, length-drop, length-append, length-replicate}
-use lib.Seq.{take-all, length-take-le, take-nil, drop-drop, take-append-seam}
-use borrow.Author.Tests.{le-leb, lt-leb, leb-true, leb-false, ltb-true, ltb-false, lt-ltb, eqb-true, ne-eqb}
+use lib.Dec.{leb, eqb}
+use lib.ListN.{length, getD, take, drop, replicate, length-take, length-drop, length-replicate}
+use lib.Seq.{take-all, length-take-le, take-nil, drop-drop}
+use borrow.Author.Tests.{le-leb, lt-leb, leb-true, leb-false, eqb-true, ne-eqb}
 use Rattle.meaning.specs.Limits.{routeSize, dayArea, dayWords}
 use Rattle.meaning.specs.Basics.{Bytes, u16At}
 use Rattle.meaning.specs.Answers.{accepted}
@@ -17,12 +17,12 @@ use Rattle.meaning.specs.Fields.{Field, Fields, end, cut, next, fields}
 use Rattle.meaning.specs.Site.{Site, siteOf, readSite}
 use Rattle.meaning.specs.Board.{boardLength, edition}
 use Rattle.meaning.specs.Plan.{Node}
-use Rattle.meaning.specs.Light.{encode}
-use Rattle.meaning.specs.Calls.{Call, route, audit, post, close, withdraw, opening, listed, bytesView, Lent, lends, onBoard, grantedLight, Done, acceptedDone, refusedDone, meant}
-use Rattle.meaning.specs.Day.{Line, Day, isField, callOf, dayDone, arrivalOf, lastLight, lineOf, dayAfter, lineThen, linesFrom, dayBoard, opened, dayLines, textOf, texts, dayText, decimalBy, decimal, numberIn, wanted, piece, lineNext, dayBy, dayNext, linesOn}
-use Rattle.meaning.specs.Laws.{ScriptField, Printed, ended, turned, DayPrinted, DayRight}
+use Rattle.meaning.specs.Calls.{Call, route, audit, post, close, withdraw, opening, listed, Lent, lends, onBoard, Done, acceptedDone, refusedDone}
+use Rattle.meaning.specs.Day.{Line, Day, isField, callOf, dayDone, lineThen, linesFrom, dayBoard, opened, dayLines, textOf, texts, dayText, wanted, piece, lineNext, dayBy, dayNext, linesOn}
+use Rattle.meaning.specs.DayPrints.{ScriptField, start}
+use Rattle.meaning.specs.Laws.{Turns, ended, turned, DayTurns}
 use Rattle.meaning.proofs.BasicsLaws.{decide, options, and-left, and-right, u16-back}
-use Rattle.meaning.proofs.CallLaws.{meant-number, meant-by, meant-accepted, done-board}
+use Rattle.meaning.proofs.CallLaws.{meant-number, meant-by, meant-accepted}
 use Rattle.meaning.proofs.CheckLaws.{size-refused}
 use Rattle.meaning.proofs.SiteLaws.{read-site}
 use Rattle.meaning.proofs.FieldsLaws.{fields-end, fields-short, fields-cut, fields-next, field-is, list-of, u16-below, put16-at}
@@ -113,66 +113,6 @@ module _ (file : List ℕ) (d : Day) where
       (λ r. let short = leb-false (h * 256 + l) (length s) r in cut-turn (t ∷ h ∷ l ∷ s) (omega arith) (fields-cut (t ∷ h ∷ l ∷ s) (omega arith) (omega arith))))
       (λ q. long-turn t h l s (leb-false _ _ q))
 
--- ---- the last granted light
-
-last-light : (file : List ℕ) (d : Day) (tug : ℕ) (a : Node) (goal : ℕ) → dayDone file d (route tug a goal) .number ≡ 0
-    → dayAfter d (dayDone file d (route tug a goal)) .light ≡ encode (grantedLight (siteOf file) (bytesView (siteOf file) (d .board)) tug a goal)
-unfolding dayDone acceptedDone
-last-light file d tug a goal granted =
-    let l : Lent = lends (d .board) (replicate dayArea 0) (replicate dayWords 0) in
-    let light : List ℕ = encode (grantedLight (siteOf file) (bytesView (siteOf file) (d .board)) tug a goal) in
-    ap (λ (x : Done). dayAfter d x .light) (meant-accepted file l (listed (route tug a goal)) granted)
-    ∙ take-append-seam light (drop (length light) (replicate dayArea 0))
-
--- ---- digits
-
--- the first digit of a number that is not 0 is not 0
-getD-front : (xs ys : List ℕ) → 1 ≤ length xs → getD (xs ++ ys) 0 0 ≡ getD xs 0 0
-getD-front [] ys h = absurd (omega arith)
-getD-front (x ∷ xs) ys h = refl
-
-some-digit : (k n : ℕ) → n < k → 1 ≤ length (decimalBy k n)
-some-digit zero n h = absurd (omega arith)
-some-digit (suc k) n h =
-    let size : _ = length-append (cond (ltb n 10) [] (decimalBy k (n / 10))) ((48 + n % 10) ∷ []) in
-    omega arith
-
-no-zero-by : (k n : ℕ) → n < k → 1 ≤ n → getD (decimalBy k n) 0 0 ≡ 48 → ⊥
-no-zero-by zero n h pos e = omega arith
-no-zero-by (suc k) n h pos e =
-    decide (ltb n 10)
-    (λ q. let small = ltb-true n 10 q in let here : 48 + n % 10 ≡ 48 = rw q at e in omega arith)
-    (λ q. let large = ltb-false n 10 q in
-    let there : getD (decimalBy k (n / 10) ++ ((48 + n % 10) ∷ [])) 0 0 ≡ 48 = rw q at e in
-    no-zero-by k (n / 10) (omega arith) (omega arith)
-    (sym (getD-front (decimalBy k (n / 10)) ((48 + n % 10) ∷ []) (some-digit k (n / 10) (omega arith))) ∙ there))
-
-no-leading-zero : (n : ℕ) → 1 ≤ n → getD (decimal n) 0 0 ≡ 48 → ⊥
-unfolding decimal
-no-leading-zero n pos e = no-zero-by (suc n) n (omega arith) pos e
-
-one-more : (before c : ℕ) (cs : List ℕ) → numberIn before (cs ++ (c ∷ [])) ≡ numberIn before cs * 10 + (c - 48)
-one-more before c [] = refl
-one-more before c (b ∷ cs) = one-more (before * 10 + (b - 48)) c cs
-
-digits-by : (k n : ℕ) → n < k → numberIn 0 (decimalBy k n) ≡ n
-digits-by zero n h = absurd (omega arith)
-digits-by (suc k) n h =
-    decide (ltb n 10)
-    (λ e. let small = ltb-true n 10 e in rw e (omega arith))
-    (λ e. let large = ltb-false n 10 e in
-    rw e (one-more 0 (48 + n % 10) (decimalBy k (n / 10)) ∙ rw (digits-by k (n / 10) (omega arith)) (omega arith)))
-
-digits : (n : ℕ) → numberIn 0 (decimal n) ≡ n
-unfolding decimal
-digits n = digits-by (suc n) n (omega arith)
-
-one-digit : (n : ℕ) → n < 10 → decimal n ≡ (48 + n) ∷ []
-unfolding decimal
-one-digit n h =
-    let same : 48 + n % 10 ≡ 48 + n = omega arith in
-    rw (lt-ltb n 10 h, same) refl
-
 -- ---- the field of a call
 
 is-field : (f : Field) (tag size : ℕ) → isField f tag size ≡ true → (f .tag ≡ tag) × (length (f .value) ≡ size)
@@ -184,7 +124,7 @@ is-field f tag size h = (
 the-call : {c k : Call} → some k ≡ some c → k ≡ c
 the-call e = cc
 
-calls : (light : List ℕ) (f : Field) (c : Call) → Bytes (f .value) → callOf light f ≡ some c → ScriptField light c f
+pub calls : (light : List ℕ) (f : Field) (c : Call) → Bytes (f .value) → callOf light f ≡ some c → ScriptField light c f
 unfolding callOf
 calls light f c bytes e =
     decide (isField f 32 6)
@@ -207,7 +147,7 @@ calls light f c bytes e =
     by : (k : Call) → some k ≡ some c → ScriptField light k f → ScriptField light c f
     by k same = subst (λ (x : Call). ScriptField light x f) (the-call same)
 
-all-calls : (light : List ℕ) (f : Field) (c : Call) → ScriptField light c f → callOf light f ≡ some c
+pub all-calls : (light : List ℕ) (f : Field) (c : Call) → ScriptField light c f → callOf light f ≡ some c
 unfolding callOf
 all-calls light f (close h cell first last) (lo, hi, e) = rw (e, u16-back first lo, u16-back last hi) refl
 all-calls light f (withdraw h) e = rw e refl
@@ -216,7 +156,7 @@ all-calls light f (post granted) (same, e) = rw (e, same) refl
 
 -- ---- a call that grants nothing
 
-nothing-shown : (file : List ℕ) (d : Day) (c : Call) (n : ℕ) → dayDone file d c .number ≡ n
+pub nothing-shown : (file : List ℕ) (d : Day) (c : Call) (n : ℕ) → dayDone file d c .number ≡ n
     → ((tug : ℕ) (a : Node) (goal : ℕ) → c ≡ route tug a goal → dayDone file d c .number ≡ 0 → ⊥) → dayDone file d c .values ≡ []
 unfolding dayDone acceptedDone refusedDone
 nothing-shown file d c n e none-granted = by-number n e
@@ -235,32 +175,24 @@ nothing-shown file d c n e none-granted = by-number n e
     by-number zero z = ap (λ (x : Done). x .values) (meant-accepted file l (listed c) z) ∙ by-call c refl z
     by-number (suc k) z = ap (λ (x : Done). x .values) (meant-by file l (listed c) (suc k) (sym (meant-number file l (listed c)) ∙ z))
 
-keeps-light : (file : List ℕ) (d : Day) (c : Call)
-    → ((tug : ℕ) (a : Node) (goal : ℕ) → c ≡ route tug a goal → dayDone file d c .number ≡ 0 → ⊥)
-    → dayAfter d (dayDone file d c) .light ≡ d .light
-keeps-light file d c none-granted =
-    ap (λ (vs : List ℕ). lastLight (d .light) (dayDone file d c .lent .out) vs) (nothing-shown file d c (dayDone file d c .number) refl none-granted)
-
-refused-line : (file : List ℕ) (d : Day) (c : Call) (n : ℕ) → dayDone file d c .number ≡ suc n
-    → lineOf (dayDone file d c) ≡ record { number = suc n; edition = edition (d .board); arrival = 0 }
-unfolding dayDone
-refused-line file d c n e =
-    let l : Lent = lends (d .board) (replicate dayArea 0) (replicate dayWords 0) in
-    let is : _ = meant-by file l (listed c) (suc n) (sym (meant-number file l (listed c)) ∙ e) in
-    let values : dayDone file d c .values ≡ [] = nothing-shown file d c (suc n) e (λ tug a goal same z. absurd (let y : suc n ≡ 0 = sym e ∙ z in omega arith)) in
-    let board : dayDone file d c .lent .board ≡ d .board = ap (λ (x : Done). x .lent .board) is ∙ done-board (siteOf file) l c (suc n) in
-    λ i. record { number = e i; edition = edition (board i); arrival = arrivalOf (values i) }
-
 -- ---- the whole day
+
+pub short-pieces : (s : List ℕ) → length (piece s) ≤ 10
+unfolding wanted
+short-pieces s =
+    let part = length-take (3 + wanted s) s in
+    decide (leb (u16At s 1) routeSize)
+    (λ e. let few = leb-true (u16At s 1) routeSize e in let size : wanted s ≡ u16At s 1 = rw e refl in omega arith)
+    (λ e. let size : wanted s ≡ 0 = rw e refl in omega arith)
 
 texts-append : (xs ys : List Line) → texts (xs ++ ys) ≡ texts xs ++ texts ys
 texts-append [] ys = refl
 texts-append (x ∷ xs) ys = ap (λ (t : List ℕ). textOf x ++ t) (texts-append xs ys) ∙ sym (append-assoc (textOf x) (texts xs) (texts ys))
 
-printed : (file : List ℕ) {rest text : List ℕ} {o : Option Day} → Printed file rest o text → text ≡ texts (linesOn file rest o)
-printed file (ended {rest = rest}) = refl
-printed file (turned {rest = rest} {text = text} {d = d} more) =
-    ap (λ (t : List ℕ). texts (lineNext file (fields (piece rest)) d) ++ t) (printed file more)
+turns-text : (file : List ℕ) {rest text : List ℕ} {o : Option Day} → Turns file rest o text → text ≡ texts (linesOn file rest o)
+turns-text file (ended {rest = rest}) = refl
+turns-text file (turned {rest = rest} {text = text} {d = d} more) =
+    ap (λ (t : List ℕ). texts (lineNext file (fields (piece rest)) d) ++ t) (turns-text file more)
     ∙ sym (texts-append (lineNext file (fields (piece rest)) d) _)
     ∙ ap texts (sym (turn-by-turn file d rest))
 
@@ -276,17 +208,17 @@ piece-read file (t ∷ s) d e goes =
 module _ (file : List ℕ) where
   -- a turn, and the turns after it
   turn-text : (rest : List ℕ) (d : Day)
-      → ((e : Day) → dayNext file (fields (piece rest)) d ≡ some e → (text : List ℕ) × Printed file (drop (length (piece rest)) rest) (some e) text)
-      → (text : List ℕ) × Printed file rest (some d) text
+      → ((e : Day) → dayNext file (fields (piece rest)) d ≡ some e → (text : List ℕ) × Turns file (drop (length (piece rest)) rest) (some e) text)
+      → (text : List ℕ) × Turns file rest (some d) text
   turn-text rest d more =
       let line : List ℕ = texts (lineNext file (fields (piece rest)) d) in
       let left : List ℕ = drop (length (piece rest)) rest in
       options (dayNext file (fields (piece rest)) d)
-      (λ e. (line ++ [], turned (subst (λ (o : Option Day). Printed file left o []) (sym e) ended)))
-      (λ next e. let (text, p) = more next e in (line ++ text, turned (subst (λ (o : Option Day). Printed file left o text) (sym e) p)))
+      (λ e. (line ++ [], turned (subst (λ (o : Option Day). Turns file left o []) (sym e) ended)))
+      (λ next e. let (text, p) = more next e in (line ++ text, turned (subst (λ (o : Option Day). Turns file left o text) (sym e) p)))
 
   -- every script has a text: each turn leaves less of it
-  some-text : (k : ℕ) (rest : List ℕ) (d : Day) → length rest ≤ k → (text : List ℕ) × Printed file rest (some d) text
+  some-text : (k : ℕ) (rest : List ℕ) (d : Day) → length rest ≤ k → (text : List ℕ) × Turns file rest (some d) text
   some-text zero rest d h =
       turn-text rest d (λ e goes. absurd (let read = piece-read file rest d e goes in let part = length-take (3 + wanted rest) rest in omega arith))
   some-text (suc k) rest d h =
@@ -295,58 +227,33 @@ module _ (file : List ℕ) where
       let left = length-drop (length (piece rest)) rest in
       some-text k (drop (length (piece rest)) rest) e (omega arith))
 
-  abbrev start : Done
-  start = meant file (onBoard (dayBoard file)) opening
-
-  only-that : (script text : List ℕ) → DayPrinted file script text → text ≡ dayText file script
+  pub only-that : (script text : List ℕ) → DayTurns file script text → text ≡ dayText file script
   unfolding dayLines
-  only-that script text (DayPrinted.refused {n = n} e) =
-      sym (append-nil (textOf (record { number = suc n; edition = 0; arrival = 0 }))) ∙ ap (λ (k : ℕ). texts (opened file script start k)) (sym e)
-  only-that script text (DayPrinted.opened e p) = printed file p ∙ ap (λ (k : ℕ). texts (opened file script start k)) (sym e)
+  only-that script text (DayTurns.not-opened {n = n} e) =
+      sym (append-nil (textOf (record { number = suc n; edition = 0; arrival = 0 }))) ∙ ap (λ (k : ℕ). texts (opened file script (start file) k)) (sym e)
+  only-that script text (DayTurns.opened e p) = turns-text file p ∙ ap (λ (k : ℕ). texts (opened file script (start file) k)) (sym e)
 
-  all-printed : (script : List ℕ) → DayPrinted file script (dayText file script)
-  all-printed script = by-number (start .number) refl
+  pub all-turns : (script : List ℕ) → DayTurns file script (dayText file script)
+  all-turns script = by-number (start file .number) refl
     where
-      by-number : (n : ℕ) → start .number ≡ n → DayPrinted file script (dayText file script)
+      by-number : (n : ℕ) → start file .number ≡ n → DayTurns file script (dayText file script)
       by-number zero e =
-          let (text, p) = some-text (length script) script (record { board = start .lent .board; light = [] }) (omega arith) in
-          let one : DayPrinted file script text = DayPrinted.opened e p in
-          subst (DayPrinted file script) (only-that script text one) one
+          let (text, p) = some-text (length script) script (record { board = start file .lent .board; light = [] }) (omega arith) in
+          let one : DayTurns file script text = DayTurns.opened e p in
+          subst (DayTurns file script) (only-that script text one) one
       by-number (suc n) e =
-          let one : DayPrinted file script (textOf (record { number = suc n; edition = 0; arrival = 0 })) = DayPrinted.refused e in
-          subst (DayPrinted file script) (only-that script _ one) one
+          let one : DayTurns file script (textOf (record { number = suc n; edition = 0; arrival = 0 })) = DayTurns.not-opened e in
+          subst (DayTurns file script) (only-that script _ one) one
 
 part-length : (n m : ℕ) → m < n → length (take n (replicate {A = ℕ} m 0)) ≡ m
 part-length n m h =
     let size : length (replicate {A = ℕ} m 0) ≡ m = length-replicate {A = ℕ} m 0 in
     ap length (take-all n (replicate m 0) (omega arith)) ∙ size
 
-too-large : (file script : List ℕ) (site : Site) → readSite file ≡ accepted site → 65536 < boardLength site
+pub too-large : (file script : List ℕ) (site : Site) → readSite file ≡ accepted site → 65536 < boardLength site
     → dayText file script ≡ textOf (record { number = 7; edition = 0; arrival = 0 })
 too-large file script site read large =
     let (clear, same) = read-site file site read in
     let more : dayArea < boardLength (siteOf file) = subst (λ (s : Site). dayArea < boardLength s) (sym same) large in
     let part : length (dayBoard file) ≡ dayArea = part-length (boardLength (siteOf file)) dayArea more in
-    sym (only-that file script _ (DayPrinted.refused (meant-number file (onBoard (dayBoard file)) opening ∙ size-refused file (onBoard (dayBoard file)) clear (λ e. omega arith))))
-
-areas : (file : List ℕ) (d : Day) (c : Call) → dayDone file d c ≡ meant file (lends (d .board) (replicate 65536 0) (replicate 16384 0)) (listed c)
-unfolding dayDone
-areas file d c = refl
-
-pub day-right : DayRight
-day-right = record {
-  turn-by-turn = λ file script d. turn-by-turn file d script;
-  printed = all-printed;
-  only-that = only-that;
-  too-large = too-large;
-  calls = calls;
-  all-calls = all-calls;
-  areas = areas;
-  board-area = λ file. refl;
-  last-light = last-light;
-  keeps-light = keeps-light;
-  refused-line = refused-line;
-  digits = digits;
-  no-leading-zero = no-leading-zero;
-  one-digit = one-digit;
-}
+    sym (only-that file script _ (DayTurns.not-opened (meant-number file (onBoard (dayBoard file)) opening ∙ size-refused file (onBoard (dayBoard file)) clear (λ e. omega arith))))

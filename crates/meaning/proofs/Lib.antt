@@ -24,4 +24,5 @@ pub mod RefusalLaws
 pub mod SiteRefusalLaws
 pub mod AreaLaws
 pub mod DayLaws
+pub mod DayPrintsLaws
 pub mod Theorems

@@ -17,7 +17,7 @@ use Rattle.meaning.specs.Plan.{Step, Node}
 use Rattle.meaning.specs.Reach.{Route, findRoute}
 use Rattle.meaning.specs.Light.{Light, startOf, encode, decode}
 use Rattle.meaning.specs.Calls.{route, listed, bytesView, Lent, refusals, routeFound, grantedLight, Done, acceptedDone, meant}
-use Rattle.meaning.specs.ValidPlans.{Valid, Reached}
+use Rattle.meaning.specs.ValidPlans.{Valid, Reached, Traced, mergeWaits}
 use Rattle.meaning.specs.WellFormed.{WellFormed, InLayout, KeepsLayout}
 use Rattle.meaning.specs.Demands.{lightOut, RouteRight}
 use Rattle.meaning.proofs.BasicsLaws.{options}
@@ -97,6 +97,7 @@ module _ (file : List ℕ) (well : WellFormed (siteOf file)) (l : Lent) (fits : 
       × (x .values ≡ length (lightOut x) ∷ y .arrival ∷ [])
       × Valid site f a (y .steps) (record { state = goal; tick = y .arrival })
       × ((ps : List Step) (t : ℕ) → Valid site f a ps (record { state = goal; tick = t }) → y .arrival ≤ t)
+      × ((back : List Step) × Traced site f a (record { state = goal; tick = y .arrival }) back × (y .steps ≡ mergeWaits back []))
 
   light-says : (r : Route) → findRoute site f a goal ≡ some r → LightSays (acceptedDone site l (listed (route tug a goal)))
   unfolding acceptedDone grantedLight bytesView
@@ -114,6 +115,7 @@ module _ (file : List ℕ) (well : WellFormed (siteOf file)) (l : Lent) (fits : 
         ap {B = List ℕ} (λ n. n ∷ granted .arrival ∷ []) (ap length (sym front)),
         rw (steps, arrives) (search-right .valid site well f a goal r e),
         λ ps t v. rw arrives (search-right .earliest site well f a goal r e .least t (record { steps = ps; valid = v })),
+        rw (steps, arrives) (search-right .traced site well f a goal r e),
       )
 
   pub route-right : RouteRight site (l .board) tug a goal d

@@ -1,6 +1,6 @@
 -- The files that the site reader accepts are exactly the files of the well-formed sites.
 -- Assumes nothing.
-use Prim.Native.Nat.{ℕ, _≤_, _<_}
+use Prim.Native.Nat.{ℕ, suc, _≤_, _<_}
 use native.Mathlib.Omega.{arith}
 use mathlib.Core.Path.{_≡_, refl, sym, ap, ap₂, _∙_, subst}
 use mathlib.Core.Bool.{true, not}
@@ -10,7 +10,7 @@ use lib.Seq.{length-take-le, take-at, drop-at}
 use borrow.Author.Tests.{leb-true, le-leb, ltb-true, lt-ltb, not-false}
 use Rattle.meaning.specs.Limits.{fileLimit}
 use Rattle.meaning.specs.Basics.{all, Each, Bytes, u16At}
-use Rattle.meaning.specs.Answers.{lowest, accepted}
+use Rattle.meaning.specs.Answers.{lowest, accepted, refused, answer}
 use Rattle.meaning.specs.Fields.{Field, fields, complete, listed, fieldsBytes}
 use Rattle.meaning.specs.Site.{State, Motion, Site, stateOf, motionOf, headOf, laterOf, stateCount, siteOf}
 use Rattle.meaning.specs.Site.{headGood, layoutGood, cellGood, motionGood, siteRefusals, readSite}
@@ -64,6 +64,10 @@ read-site file site e = answer-accepted (siteOf file) site (lowest (siteRefusals
 pub site-read : (file : List ℕ) → lowest (siteRefusals file) ≡ 0 → readSite file ≡ accepted (siteOf file)
 unfolding readSite
 site-read file e = accepted-answer (siteOf file) (lowest (siteRefusals file)) e
+
+read-refused : (file : List ℕ) (n : ℕ) → lowest (siteRefusals file) ≡ suc n → readSite file ≡ refused (suc n)
+unfolding readSite answer
+read-refused file n e = ap (answer (siteOf file)) e
 
 -- ---- what is accepted is well formed
 
@@ -269,4 +273,4 @@ read-made file site bytes e =
     (read-well file site e, ap fileOf (sym same) ∙ passes-file file bytes p, p .short)
 
 pub sites-right : SitesRight
-sites-right = record { read-back = λ site well short. made-read site well short; only-those = read-made }
+sites-right = record { read-back = λ site well short. made-read site well short; refused-by = read-refused; only-those = read-made }

@@ -14,7 +14,7 @@ use Rattle.meaning.proofs.PlanLaws.{plans-right}
 use Rattle.meaning.proofs.TraceLaws.{search-right}
 use Rattle.meaning.proofs.IntervalLaws.{intervals-right}
 use Rattle.meaning.proofs.HandoverLaws.{handover-right}
-use Rattle.meaning.proofs.DayLaws.{day-right}
+use Rattle.meaning.proofs.DayPrintsLaws.{day-right}
 use Rattle.meaning.proofs.DemandLaws.{exact-demand1, exact-demand2}
 use Rattle.meaning.proofs.ListLaws.{exact-demand3}
 

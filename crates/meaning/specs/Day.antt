@@ -1,6 +1,6 @@
 -- The day program: from the bytes of site.bin and of the script to the lines that it prints.
 -- Assumes nothing.
-use Prim.Native.Nat.{ℕ, zero, suc, _+_, _-_, _*_, _/_, _%_}
+use Prim.Native.Nat.{ℕ, zero, suc, _+_, _/_, _%_}
 use mathlib.Core.Bool.{Bool, cond, _&&_}
 use mathlib.Core.Option.{Option, none, some}
 use mathlib.Core.List.{List, [], _∷_, _++_}
@@ -101,11 +101,6 @@ decimalBy (suc k) n = cond (ltb n 10) [] (decimalBy k (n / 10)) ++ ((48 + n % 10
 -- all of them: 0 has one, and any other number no more than it counts
 unfoldable pub decimal : ℕ → List ℕ
 decimal n = decimalBy (suc n) n
-
--- the number that digits write, the highest first; `before` is what the digits in front of them wrote
-abbrev pub numberIn : ℕ → List ℕ → ℕ
-numberIn before [] = before
-numberIn before (c ∷ cs) = numberIn (before * 10 + (c - 48)) cs
 
 -- a blank between the numbers, and the line's end
 abbrev pub textOf : Line → List ℕ

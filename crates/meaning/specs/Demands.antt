@@ -15,7 +15,7 @@ use Rattle.meaning.specs.Light.{Light, startOf, goalOf, decode}
 use Rattle.meaning.specs.Intervals.{Interval, numbersOf}
 use Rattle.meaning.specs.Calls.{Call, route, audit, post, close, withdraw, PublicCall, opening, interval, listed, Lent, roomOf, refusals, Done, meant}
 use Rattle.meaning.specs.PlainBoard.{Entry, Plain, emptyPlain, hasPair, Seen, plainSeen, plainAfter, bytesOf}
-use Rattle.meaning.specs.ValidPlans.{Valid, Reached, Holds}
+use Rattle.meaning.specs.ValidPlans.{Valid, Reached, Holds, Traced, mergeWaits}
 use Rattle.meaning.specs.Refusals.{bytesSight, CloseAccepted, LightAccepted, WithdrawAccepted, RouteAccepted}
 use Rattle.meaning.specs.SafeIntervals.{AllSafeIntervals}
 
@@ -97,7 +97,7 @@ pub record Demand1 (desk : Desk) : Type 0 where
       → (d .lent .board ≡ l .board)
       × Written (lightOut d) (l .out) (d .lent .out)
       × Written (replicate (length (siteOf file .states) * (siteOf file .horizon + 1)) 0) (l .words) (d .lent .words)
-      × RouteAccepted (siteOf file) (bytesSight (siteOf file) (l .board)) (roomOf l) tug a goal
+      × RouteAccepted (siteOf file) (bytesSight (siteOf file) (l .board)) (record { out = length (l .out); words = length (l .words) }) tug a goal
 
 -- ---- demand 2
 
@@ -114,6 +114,8 @@ pub record RouteRight (site : Site) (board : List ℕ) (tug : ℕ) (a : Node) (g
       × (d .values ≡ length (lightOut d) ∷ x .arrival ∷ [])
       × Valid site (free site board) a (x .steps) (record { state = goal; tick = x .arrival })
       × ((ps : List Step) (t : ℕ) → Valid site (free site board) a ps (record { state = goal; tick = t }) → x .arrival ≤ t)
+      -- and of those that arrive then it is the traced one
+      × ((back : List Step) × Traced site (free site board) a (record { state = goal; tick = x .arrival }) back × (x .steps ≡ mergeWaits back []))
 
 pub record Demand2 (desk : Desk) : Type 0 where
   -- the free intervals reported for a cell are all its safe intervals, and only those

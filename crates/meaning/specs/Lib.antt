@@ -15,6 +15,7 @@ pub mod ValidPlans
 pub mod SafeIntervals
 pub mod WellFormed
 pub mod Refusals
+pub mod DayPrints
 pub mod Laws
 pub mod Demands
 pub mod EarliestOnly

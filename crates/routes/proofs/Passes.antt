@@ -14,6 +14,7 @@ use Rattle.meaning.specs.WellFormed.{WellFormed}
 use Rattle.meaning.specs.Plan.{Node}
 use Rattle.meaning.specs.Reach.{Route, findRoute}
 use Rattle.meaning.specs.Calls.{PublicCall, route, opening, listed, bytesView, lightRoom, wordsNeeded, Lent, onBoard, withWordsZero, refusals, acceptedDone, refusedDone, meant}
+use Rattle.meaning.proofs.BasicsLaws.{each-append}
 use Rattle.meaning.proofs.AnswersLaws as AnswersLaws
 use Rattle.meaning.proofs.CallLaws.{Parts, PassesTo14, passes-to-14, parts, board-sized, meant-number, meant-by, meant-accepted, refused-same, refused-18, search-found, search-none, named-start, named-tick, named-goal, parts-read}
 use Rattle.meaning.proofs.SiteLaws.{read-well}
@@ -82,7 +83,7 @@ module _ (file : List ℕ) (lent : Lent) (tug : ℕ) (a : Node) (goal : ℕ) whe
     checks-passed = AnswersLaws.lowest-none checks checks-rise (passed-number l (layoutOf site) (lowest checks) e .0)
 
     open-part : Each AnswersLaws.Passed (refusals file (onBoard (lent .board)) opening)
-    open-part = AnswersLaws.each-append AnswersLaws.Passed (refusals file (onBoard (lent .board)) opening) _ checks-passed .0
+    open-part = each-append AnswersLaws.Passed (refusals file (onBoard (lent .board)) opening) _ checks-passed .0
 
     pub clears : Clears 14 (refusals file lent call)
     clears = rw (all-parts file lent tug a goal) (clears-behind 14 checks _ (omega arith) checks-passed)

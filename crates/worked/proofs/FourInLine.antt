@@ -49,6 +49,7 @@ all-cases = (
   record {
     A-earliest-only = refl;
     wait-earliest-only = refl;
+    interval-earliest-only = refl;
     B-board = refl;
     area-fits = refl;
     area-75 = refl;

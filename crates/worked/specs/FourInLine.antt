@@ -182,6 +182,8 @@ pub record Computed : Type 0 where
   pub A-earliest-only : earliestNumber (siteOf siteFile) (free (siteOf siteFile) fresh) (node 0 0) 4 ≡ 0
   -- and one that must wait
   pub wait-earliest-only : earliestNumber (siteOf siteFile) (free (siteOf siteFile) (closed 200 1 1 1 fresh)) (node 0 0) 4 ≡ 0
+  -- and one that must come in the second interval of cell 1
+  pub interval-earliest-only : earliestNumber (siteOf siteFile) (free (siteOf siteFile) (closed 200 1 3 3 fresh)) (node 0 0) 4 ≡ 0
   -- B's board: edition 1, then cell by cell
   pub B-board : boardB ≡ (0 ∷ 0 ∷ 0 ∷ 1 ∷ []) ++ (replicate 39 0 ++ (replicate 9 200 ++ replicate 4 0))
   -- areas that just fit, and one less
