@@ -47,9 +47,10 @@ pub record HoldersRight : Type 0 where
 -- a file of bytes is accepted exactly when it is the file of a well-formed site of at most 65,536 bytes, and it is read as that site
 pub record SitesRight : Type 0 where
   pub read-back : (site : Site) → WellFormed site → length (fileOf site) ≤ 65536 → readSite (fileOf site) ≡ accepted site
-  pub refused-by : (file : List ℕ) (n : ℕ) → lowest (siteRefusals file) ≡ suc n → readSite file ≡ refused (suc n)
   pub only-those : (file : List ℕ) (site : Site) → Bytes file → readSite file ≡ accepted site
       → WellFormed site × (fileOf site ≡ file) × (length file ≤ 65536)
+  -- a file that is not tells the lowest number that applies
+  pub refused-by : (file : List ℕ) (n : ℕ) → lowest (siteRefusals file) ≡ suc n → readSite file ≡ refused (suc n)
 
 -- bytes are a light exactly when they are that light's bytes and it keeps the layout
 pub record LightsRight : Type 0 where
