@@ -11,7 +11,7 @@
  * are aligned for their elements, to 2 and to 4 bytes. An area of length 0 may be a null pointer.
  *
  * A call keeps nothing between calls and takes no memory but the stack: dispatch_route up to 600,000 bytes,
- * dispatch_audit and dispatch_post up to 40,000 (a light of 1,000 steps is read by recursion), the others
+ * dispatch_audit and dispatch_post up to 60,000 (a light of 1,000 steps is read by recursion), the others
  * up to 4,000. So calls from several threads need no lock, as long as none writes what another is lent.
  *
  * What each call returns and writes is proved: crates/dispatch_c/src/lib.rt has the contracts, and

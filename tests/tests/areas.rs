@@ -2,9 +2,9 @@
 
 #![cfg(not(feature = "standin"))]
 
-use dispatch_tests::desk::{self, Answer};
 use dispatch_tests::literal::{encode, Motion, Site, State, Sweep};
 use dispatch_tests::{c, four};
+use std::fs;
 
 /// Each area in turn as a null pointer of length 0: the answer is that of an empty area.
 #[test]
@@ -61,32 +61,86 @@ fn largest() -> Site {
     Site { h: 1000, c: 255, states: (0..256).map(|s| State { cell: cell(s), speed: 0 }).collect(), motions }
 }
 
-/// Runs in a thread with so much stack, and 32 KiB for the thread itself.
-fn within(bytes: usize, call: impl FnOnce() -> Answer + Send + 'static) -> Answer {
-    let thread = std::thread::Builder::new().stack_size(bytes + 32 * 1024);
-    thread.spawn(call).unwrap().join().unwrap()
+/// Each call in a thread whose stack is filled with a mark first: how many bytes of it are no longer the mark, less those
+/// that a thread takes which makes no call.
+const STACK: &str = r#"
+#include <pthread.h>
+#include <stdio.h>
+#include <stdlib.h>
+#include <string.h>
+#include <sys/mman.h>
+#include "include/dispatch.h"
+enum { SIZE = 4 << 20, LONG = 16 + 5 * 100000 };
+static uint8_t site[65537], light[LONG], out[16 + 5 * 1000];
+static uint16_t numbers[1002];
+static size_t site_len, board_len = 4 + 255 * 1001, work_len = 256 * 1001;
+static uint8_t *board;
+static uint32_t *work;
+static int call;
+static uint64_t word;
+static void *run(void *unused) {
+    switch (call) {
+    case 1: word = dispatch_open(site, site_len, board, board_len); break;
+    case 2: word = dispatch_interval(site, site_len, board, board_len, 254, numbers, 1002); break;
+    case 3: word = dispatch_route(site, site_len, board, board_len, 7, 0, 0, 200, out, sizeof out, work, work_len); break;
+    case 4: word = dispatch_audit(site, site_len, board, board_len, light, LONG); break;
+    case 5: word = dispatch_audit(site, site_len, board, board_len, light, 16 + 5 * 1000); break;
+    case 6: word = dispatch_post(site, site_len, board, board_len, light, 16 + 5 * 1000); break;
+    case 7: word = dispatch_withdraw(site, site_len, board, board_len, 7); break;
+    case 8: word = dispatch_close(site, site_len, board, board_len, 200, 254, 0, 1000); break;
+    }
+    return unused;
 }
+static size_t used(void) {
+    uint8_t *stack = mmap(0, SIZE, PROT_READ | PROT_WRITE, MAP_PRIVATE | MAP_ANONYMOUS, -1, 0);
+    pthread_attr_t attributes;
+    pthread_t thread;
+    size_t left = 0;
+    memset(stack, 0xa5, SIZE);
+    pthread_attr_init(&attributes);
+    pthread_attr_setstack(&attributes, stack, SIZE);
+    if (pthread_create(&thread, &attributes, run, 0)) exit(1);
+    pthread_join(thread, 0);
+    while (left < SIZE && stack[left] == 0xa5) left++;
+    munmap(stack, SIZE);
+    return SIZE - left;
+}
+int main(void) {
+    static const uint8_t head[16] = {16, 0, 13, 0, 0, 0, 0, 7, 0, 0, 0, 0, 0, 232, 3, 232};
+    site_len = fread(site, 1, sizeof site, fopen("target/c/largest.bin", "rb"));
+    board = calloc(board_len, 1);
+    work = calloc(work_len, sizeof *work);
+    memcpy(light, head, 16);
+    for (size_t k = 0; k < 100000; k++) {
+        uint8_t step[5] = {18, 0, 2, 0, (uint8_t)k};
+        memcpy(light + 16 + 5 * k, step, 5);
+    }
+    call = 0;
+    size_t thread = used();
+    for (call = 1; call <= 8; call++) {
+        size_t bytes = used() - thread;
+        printf("%d %zu\n", (int)(word & 255), bytes);
+    }
+}
+"#;
 
-/// The calls on the largest site, with a light of 1,000 steps, in no more stack than the header says. A thread that
-/// needs more ends the whole test program.
+/// On the largest site, with a light of 1,000 motions around the ring (and one that is too long), each call keeps to what
+/// the header says.
 #[test]
 fn stack() {
-    let site = encode(&largest());
-    let mut board = vec![0; 4 + 255 * 1001];
-    // motions 0 to 255 lead around the ring; 17 wants a plan that is walked to its end and does not end at its goal
-    let mut light = vec![16, 0, 13, 0, 0, 0, 0, 7, 0, 0, 0, 0, 0, 200, 3, 232];
-    for k in 0..1000u16 {
-        light.extend([18, 0, 2, 0, (k % 256) as u8]);
+    let folder = c::root().join("target/c");
+    fs::create_dir_all(&folder).unwrap();
+    fs::write(folder.join("largest.bin"), encode(&largest())).unwrap();
+    let header = fs::read_to_string(c::root().join("include/dispatch.h")).unwrap();
+    for said in ["dispatch_route up to 600,000 bytes", "dispatch_audit and dispatch_post up to 60,000", "up to 4,000"] {
+        assert!(header.contains(said), "the header does not say {said}");
     }
-    let (s, b) = (site.clone(), board.clone());
-    let route = move || desk::route(&s, &b, 7, 0, 0, 200, &mut vec![0; 16 + 5 * 1000], &mut vec![0; 256 * 1001]);
-    assert_eq!(within(600_000, route).number, 0);
-    let (s, b, l) = (site.clone(), board.clone(), light.clone());
-    assert_eq!(within(40_000, move || desk::audit(&s, &b, &l)), Answer::plain(17));
-    light[13] = 232;
-    let (s, mut b, l) = (site.clone(), board.clone(), light);
-    assert_eq!(within(40_000, move || desk::post(&s, &mut b, &l)), Answer::plain(0));
-    let (s, b) = (site.clone(), board.clone());
-    assert_eq!(within(4_000, move || desk::interval(&s, &b, 254, &mut vec![0; 1002])).number, 0);
-    assert_eq!(within(4_000, move || desk::close(&site, &mut board, 200, 254, 0, 1000)), Answer::plain(0));
+    let printed = c::run("stack", STACK);
+    let measured: Vec<(u8, usize)> =
+        printed.lines().map(|line| line.split_once(' ').unwrap()).map(|(number, bytes)| (number.parse().unwrap(), bytes.parse().unwrap())).collect();
+    let wanted = [(0, 4_000), (0, 4_000), (0, 600_000), (8, 60_000), (0, 60_000), (0, 60_000), (0, 4_000), (0, 4_000)];
+    assert_eq!(measured.len(), wanted.len());
+    for (k, (&(number, bytes), &(expected, limit))) in measured.iter().zip(&wanted).enumerate() {
+        assert!(number == expected && bytes <= limit, "call {k}: number {number}, {bytes} bytes of stack");
+    }
 }
