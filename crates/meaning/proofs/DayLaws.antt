@@ -15,7 +15,7 @@ use Rattle.meaning.specs.Basics.{Bytes, u16At}
 use Rattle.meaning.specs.Answers.{accepted}
 use Rattle.meaning.specs.Fields.{Field, Fields, end, cut, next, fields}
 use Rattle.meaning.specs.Site.{Site, siteOf, readSite}
-use Rattle.meaning.specs.Board.{boardLength, edition}
+use Rattle.meaning.specs.Board.{boardLength}
 use Rattle.meaning.specs.Plan.{Node}
 use Rattle.meaning.specs.Calls.{Call, route, audit, post, close, withdraw, opening, listed, Lent, lends, onBoard, Done, acceptedDone, refusedDone}
 use Rattle.meaning.specs.Day.{Line, Day, isField, callOf, dayDone, lineThen, linesFrom, dayBoard, opened, dayLines, textOf, texts, dayText, wanted, piece, lineNext, dayBy, dayNext, linesOn}

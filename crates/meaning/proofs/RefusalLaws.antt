@@ -11,7 +11,7 @@ use borrow.Author.Tests.{eqb-true, eq-eqb, not-false}
 use lib.ListN.{length, getD}
 use Rattle.meaning.specs.Basics.{every, all, Each, Some, Bytes, isNone}
 use Rattle.meaning.specs.Site.{Site, stateAt}
-use Rattle.meaning.specs.Board.{Free, free, stands, boardLength, Pair, runTo, allFree}
+use Rattle.meaning.specs.Board.{Free, boardLength, Pair, runTo, allFree}
 use Rattle.meaning.specs.Plan.{Step, wait, move, Node, planEnd, planPairs}
 use Rattle.meaning.specs.Reach.{findRoute}
 use Rattle.meaning.specs.Light.{Light, startOf, goalOf, lightOf, isLight, decode}

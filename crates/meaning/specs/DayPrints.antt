@@ -53,7 +53,7 @@ IsRoute c = (tug : ℕ) × (a : Node) × (goal : ℕ) × (c ≡ route tug a goal
 
 -- ---- the script
 
--- from a board and the last granted light on
+-- `Prints file board light script text`: what is printed for the rest of the script, from the board and the last granted light on
 pub data Prints (file : List ℕ) : List ℕ → List ℕ → List ℕ → List ℕ → Type 0 where
   ends : {board light : List ℕ} → Prints file board light [] []
   -- a cut field, another tag or length: 99 0 0, and the program ends
@@ -74,7 +74,7 @@ pub data Prints (file : List ℕ) : List ℕ → List ℕ → List ℕ → List 
       → Prints file (called file board c .lent .board) light rest text
       → Prints file board light script (line ++ text)
 
--- the board is the part of its area that the site needs
+-- opening the board: the part of its area of 65,536 bytes that the site needs
 abbrev pub start : List ℕ → Done
 start file = meant file (onBoard (take (4 + siteOf file .cells * (siteOf file .horizon + 1)) (replicate 65536 0))) opening
 

@@ -10,7 +10,7 @@ use Rattle.meaning.specs.Basics.{Each, Some, Bytes}
 use Rattle.meaning.specs.Answers.{Refusal, lowest, RiseFrom, accepted, refused}
 use Rattle.meaning.specs.Fields.{Field, fields}
 use Rattle.meaning.specs.Site.{Site, siteRefusals, readSite}
-use Rattle.meaning.specs.Board.{Free, edition, isTug, isClosure, isHolder}
+use Rattle.meaning.specs.Board.{Free, isTug, isClosure, isHolder}
 use Rattle.meaning.specs.Plan.{Step, Node, planEnd, planPairs}
 use Rattle.meaning.specs.Reach.{reachWord, Route, findRoute}
 use Rattle.meaning.specs.Light.{Light, encode, decode}
