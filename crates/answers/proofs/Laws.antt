@@ -10,12 +10,12 @@ use Rattle.meaning.specs.Site.{Site, siteOf}
 use Rattle.meaning.specs.Calls.{PublicCall, listed, Call, Lent, refusals, changed, Done, acceptedDone, refusedDone, doneBy, meant}
 use Rattle.meaning.proofs.BasicsLaws.{decide}
 use Rattle.meaning.proofs.CallLaws.{meant-number, meant-by, done-board}
-use Rattle.site.specs.Check.{layoutOf}
-use Rattle.site.specs.declared.Layout.{Layout}
-use Rattle.calls.specs.declared.Check.the-variants.{Passed, Refused}
-use Rattle.calls.specs.Checks.{checkBy}
-use Rattle.calls.proofs.Laws.{refused-number}
-use Rattle.calls.proofs.Passes.{none-applies}
+use Rattle.site.specs.Check.{sizesOf}
+use Rattle.site.specs.declared.Sizes.{Sizes}
+use Rattle.site.specs.declared.Check.the-variants.{Passed, Refused}
+use Rattle.checks.specs.Checks.{checkBy}
+use Rattle.checks.proofs.Laws.{refused-number}
+use Rattle.checks.proofs.Passes.{none-applies}
 use Rattle.answers.specs.declared.Answer.{Answer}
 use Rattle.answers.specs.declared.Answer.the-variants as A
 use Rattle.answers.specs.Answers.{numberOf, answerOf}
@@ -39,13 +39,13 @@ by-refused site l q (suc n) h = refl
 module _ (file : List ℕ) (lent : Lent) (q : PublicCall) where
   module _ (n : ℕ) (e : Refused n ≡ checkBy (siteOf file) (lowest (refusals file lent q))) where
     pub refused-told : meant file lent q .number ≡ n
-    refused-told = meant-number file lent q ∙ refused-number (layoutOf (siteOf file)) n _ e .0
+    refused-told = meant-number file lent q ∙ refused-number (sizesOf (siteOf file)) n _ e .0
 
     pub refused-not-zero : 1 ≤ n
-    refused-not-zero = refused-number (layoutOf (siteOf file)) n _ e .1
+    refused-not-zero = refused-number (sizesOf (siteOf file)) n _ e .1
 
     refused-meant : meant file lent q ≡ refusedDone (siteOf file) lent n
-    refused-meant = meant-by file lent q n (refused-number (layoutOf (siteOf file)) n _ e .0) ∙ by-refused (siteOf file) lent q n refused-not-zero
+    refused-meant = meant-by file lent q n (refused-number (sizesOf (siteOf file)) n _ e .0) ∙ by-refused (siteOf file) lent q n refused-not-zero
 
     pub refused-answer : A.Refused n ≡ answerOf (meant file lent q .number)
     refused-answer = answer-refused n refused-not-zero ∙ sym (ap answerOf refused-told)
@@ -56,7 +56,7 @@ module _ (file : List ℕ) (lent : Lent) (q : PublicCall) where
     pub refused-out : lent .out ≡ meant file lent q .lent .out
     refused-out = refused-keeps (siteOf file) lent n .1 ∙ sym (ap (λ (d : Done). d .lent .out) refused-meant)
 
-  module _ (l : Layout) (e : Passed l ≡ checkBy (siteOf file) (lowest (refusals file lent q))) where
+  module _ (l : Sizes) (e : Passed l ≡ checkBy (siteOf file) (lowest (refusals file lent q))) where
     pub accepted-meant : acceptedDone (siteOf file) lent q ≡ meant file lent q
     accepted-meant = sym (meant-by file lent q 0 (none-applies file lent q l e))
 
@@ -64,7 +64,7 @@ module _ (file : List ℕ) (lent : Lent) (q : PublicCall) where
     accepted-answer = sym (ap answerOf (meant-number file lent q ∙ none-applies file lent q l e))
 
 -- the board that a call of a list leaves
-module _ (file : List ℕ) (lent : Lent) (c : Call) (l : Layout) (e : Passed l ≡ checkBy (siteOf file) (lowest (refusals file lent (listed c)))) where
+module _ (file : List ℕ) (lent : Lent) (c : Call) (l : Sizes) (e : Passed l ≡ checkBy (siteOf file) (lowest (refusals file lent (listed c)))) where
   pub accepted-board : (end : List ℕ) → end ≡ changed (siteOf file) (lent .board) c → end ≡ meant file lent (listed c) .lent .board
   accepted-board end same =
       same ∙ sym (done-board (siteOf file) lent c 0) ∙ ap (λ (d : Done). d .lent .board) (accepted-meant file lent (listed c) l e)

@@ -17,10 +17,10 @@ use Rattle.meaning.specs.Limits.{lastTug, lastClosure, header}
 use Rattle.meaning.specs.Basics.{every, any, allFrom, Each}
 use Rattle.meaning.specs.Site.{Site}
 use Rattle.meaning.specs.Board.{Sort, nobody, tug, closure, unknown, sortOf, isHolder, stands, place, free, run, runTo, mark}
-use Rattle.board.specs.Holders.{sortCase}
-use Rattle.board.specs.declared.Holder.{Holder}
-use Rattle.board.specs.declared.Holder.the-variants.{Free, Tug, Closure, Unknown}
-use Rattle.board.proofs.Holder.{the-type}
+use Rattle.board.specs.Sorts.{sortCase}
+use Rattle.board.specs.declared.Sort as Read
+use Rattle.board.specs.declared.Sort.the-variants.{Free, Tug, Closure, Unknown}
+use Rattle.board.proofs.Sort.{the-type}
 use Rattle.meaning.proofs.BasicsLaws.{decide}
 
 -- ---- an arm of a match on a byte's sort
@@ -32,21 +32,21 @@ at-key P (k ∷ []) x each e = subst P (sym e) (each .0)
 at-key P (k ∷ j ∷ keys) x each (inl e) = subst P (sym e) (each .0)
 at-key P (k ∷ j ∷ keys) x each (inr e) = at-key P (j ∷ keys) x (each .1) e
 
--- the keys of a match on a `Holder` are the numbers of its cases
+-- the keys of a match on a `Sort` are the numbers of its cases
 abbrev keySort : ℕ → Sort
 keySort zero = nobody
 keySort (suc zero) = tug
 keySort (suc (suc zero)) = closure
 keySort (suc (suc (suc n))) = unknown
 
-key-sort : (k : Holder) → keySort (tagOf the-type k) ≡ sortCase k
+key-sort : (k : Read.Sort) → keySort (tagOf the-type k) ≡ sortCase k
 key-sort Free = refl
 key-sort Tug = refl
 key-sort Closure = refl
 key-sort Unknown = refl
 
 -- an arm's answer is the test's if it is so for each of the sorts that the arm takes
-pub arm : (test : Sort → Bool) (answer : Bool) (keys : List ℕ) (b : ℕ) (k : Holder)
+pub arm : (test : Sort → Bool) (answer : Bool) (keys : List ℕ) (b : ℕ) (k : Read.Sort)
     → OneOf keys (tagOf the-type k) → sortCase k ≡ sortOf b → Each (λ (n : ℕ). answer ≡ test (keySort n)) keys → answer ≡ test (sortOf b)
 arm test answer keys b k met sorted each =
     at-key (λ (n : ℕ). answer ≡ test (keySort n)) keys _ each met ∙ ap test (key-sort k ∙ sorted)

@@ -1,2 +1,2 @@
-pub mod Holders
+pub mod Sorts
 pub mod Runs

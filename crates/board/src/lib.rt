@@ -8,14 +8,14 @@ ghost use Rattle.meaning.specs.Limits.{header, lastEdition};
 ghost use Rattle.meaning.specs.Site.{Site};
 ghost use Rattle.meaning.specs.Board.{sortOf, isTug, isClosure, isHolder, edition, withEdition, nextEdition, free, stands, mark, runTo, clear};
 ghost use Rattle.meaning.specs.Plan.{freeFromTo};
-ghost use Rattle.board.specs.Holders.{sortCase};
+ghost use Rattle.board.specs.Sorts.{sortCase};
 ghost use Rattle.board.specs.Runs.{Row};
 
 // The bytes of the edition, which stand before those of the cells.
 const HEADER: usize = 4;
 
 // Who holds a byte's pair.
-pub enum Holder {
+pub enum Sort {
     Free,
     Tug,
     Closure,
@@ -23,14 +23,14 @@ pub enum Holder {
 }
 
 // How a byte of the board sorts.
-pub fn sort(b: u8) -> Holder
+pub fn sort_of(b: u8) -> Sort
     ensures { λ r. ⌜ sortCase r ≡ sortOf b ⌝ }
 {
     match b {
-        0 => Holder::Free,
-        1..=199 => Holder::Tug,
-        200..=254 => Holder::Closure,
-        _ => Holder::Unknown,
+        0 => Sort::Free,
+        1..=199 => Sort::Tug,
+        200..=254 => Sort::Closure,
+        _ => Sort::Unknown,
     }
 }
 
@@ -38,8 +38,8 @@ pub fn sort(b: u8) -> Holder
 pub fn is_free_byte(b: u8) -> bool
     ensures { λ r. ⌜ r ≡ eqb b 0 ⌝ }
 {
-    match sort(b) {
-        Holder::Free => true,
+    match sort_of(b) {
+        Sort::Free => true,
         _ => false,
     }
 }
@@ -48,8 +48,8 @@ pub fn is_free_byte(b: u8) -> bool
 pub fn is_tug(h: u8) -> bool
     ensures { λ r. ⌜ r ≡ isTug h ⌝ }
 {
-    match sort(h) {
-        Holder::Tug => true,
+    match sort_of(h) {
+        Sort::Tug => true,
         _ => false,
     }
 }
@@ -58,8 +58,8 @@ pub fn is_tug(h: u8) -> bool
 pub fn is_closure(h: u8) -> bool
     ensures { λ r. ⌜ r ≡ isClosure h ⌝ }
 {
-    match sort(h) {
-        Holder::Closure => true,
+    match sort_of(h) {
+        Sort::Closure => true,
         _ => false,
     }
 }
@@ -68,8 +68,8 @@ pub fn is_closure(h: u8) -> bool
 pub fn is_holder(h: u8) -> bool
     ensures { λ r. ⌜ r ≡ isHolder h ⌝ }
 {
-    match sort(h) {
-        Holder::Tug | Holder::Closure => true,
+    match sort_of(h) {
+        Sort::Tug | Sort::Closure => true,
         _ => false,
     }
 }
@@ -78,8 +78,8 @@ pub fn is_holder(h: u8) -> bool
 fn carries(b: u8, h: u8) -> bool
     ensures { λ r. ⌜ r ≡ (isHolder b && eqb b h) ⌝ }
 {
-    match sort(b) {
-        Holder::Tug | Holder::Closure => b == h,
+    match sort_of(b) {
+        Sort::Tug | Sort::Closure => b == h,
         _ => false,
     }
 }

@@ -1,15 +1,15 @@
 // The day program: the site from site.bin, an opened board, and a script from standard input, one line for each of its fields.
 // What a field comes to is proved in `script`; here bytes are read, handed over and printed.
+use day_turns::Opening;
+use day_turns::Outcome;
 use libc::STDIN_FILENO;
 use libc::STDOUT_FILENO;
-use script::Opening;
-use script::Outcome;
 ghost use Prim.Native.Nat.{_≤_};
 ghost use mathlib.Core.Path.{_≡_};
 ghost use lib.ListN.{length};
 ghost use Rattle.io.specs.Counts.{Counts};
 ghost use Rattle.meaning.specs.Limits.{header, dayArea};
-ghost use Rattle.script.specs.Turns.{Areas};
+ghost use Rattle.day_turns.specs.Turns.{Areas};
 
 // The site file's bytes, as many as fit: none where it cannot be opened.
 fn load(file: &mut [u8]) -> usize
@@ -30,7 +30,7 @@ fn read_piece(piece: &mut [u8]) -> usize
     ensures { λ r. ⌜ Counts r (now (piece .exit)) ⌝ }
 {
     let got = io::read_full(STDIN_FILENO, &mut piece[..3]);
-    let want = orders::wanted(&piece[..got]);
+    let want = day_orders::wanted(&piece[..got]);
     if want == 0 {
         return got;
     }
@@ -46,7 +46,7 @@ fn turn(file: &[u8], board: &mut [u8], out: &mut [u8], words: &mut [u32], light:
     let mut piece = [0u8; 10];
     let n = read_piece(&mut piece);
     let mut line = [0u8; 64];
-    let turn = script::turn(file, board, out, words, light, &piece[..n], &mut line);
+    let turn = day_turns::turn(file, board, out, words, light, &piece[..n], &mut line);
     io::write_all(STDOUT_FILENO, &line[..turn.text]);
     turn
 }
@@ -70,7 +70,7 @@ fn run(file: &[u8], board: &mut [u8], out: &mut [u8], words: &mut [u32])
 // A refusal's line, its number alone.
 fn refuse(number: u8) {
     let mut line = [0u8; 64];
-    let n = lines::write_line(&mut line, number as u64, 0, 0);
+    let n = day_lines::write_line(&mut line, number as u64, 0, 0);
     io::write_all(STDOUT_FILENO, &line[..n]);
 }
 
@@ -80,7 +80,7 @@ fn obey(file: &mut [u8], area: &mut [u8], out: &mut [u8], words: &mut [u32])
     requires { ⌜ Areas (length (now out)) (length (now words)) 0 ⌝ }
 {
     let n = load(file);
-    match script::start(&file[..n], area) {
+    match day_turns::start(&file[..n], area) {
         Opening::Opened(size) => {
             run(&file[..n], &mut area[..size], out, words);
         }

@@ -1,5 +1,5 @@
 -- The demands, of the public calls themselves: over what their contracts promise, and nothing else of the code.
--- `Learnt` and its arguments are those of crates/board_calls/proofs/Exact.antt.
+-- `Learnt` and its arguments are those of crates/desk_board/proofs/Exact.antt.
 -- Assumes nothing.
 use Prim.Native.Nat.{ℕ}
 use mathlib.Core.Path.{_≡_, refl}
@@ -15,16 +15,16 @@ use Rattle.answers.specs.declared.Counted.{Counted}
 use Rattle.answers.specs.declared.Granted.{Granted}
 use Rattle.answers.specs.Answers.{numberOf, answerOf, countedNumber, countedValues, countedOf, grantedNumber, grantedValues, grantedOf}
 use Rattle.answers.proofs.Desks.{boardDone, lifetimes, lend, turns, allows-meant, every-run}
-use Rattle.board_calls.proofs.Exact.{open-meant, interval-meant, close-meant, withdraw-meant}
-use Rattle.light_calls.proofs.Exact.{audit-meant, post-meant}
-use Rattle.route_call.proofs.Exact.{route-meant}
-use Rattle.board_calls.proofs.open.Reads as open-reads
-use Rattle.board_calls.proofs.interval.Reads as interval-reads
-use Rattle.route_call.proofs.route.Reads as route-reads
-use Rattle.light_calls.proofs.audit.Reads as audit-reads
-use Rattle.light_calls.proofs.post.Reads as post-reads
-use Rattle.board_calls.proofs.close.Reads as close-reads
-use Rattle.board_calls.proofs.withdraw.Reads as withdraw-reads
+use Rattle.desk_board.proofs.Exact.{open-meant, interval-meant, close-meant, withdraw-meant}
+use Rattle.desk_light.proofs.Exact.{audit-meant, post-meant}
+use Rattle.desk_route.proofs.Exact.{route-meant}
+use Rattle.desk_board.proofs.open.Reads as open-reads
+use Rattle.desk_board.proofs.interval.Reads as interval-reads
+use Rattle.desk_route.proofs.route.Reads as route-reads
+use Rattle.desk_light.proofs.audit.Reads as audit-reads
+use Rattle.desk_light.proofs.post.Reads as post-reads
+use Rattle.desk_board.proofs.close.Reads as close-reads
+use Rattle.desk_board.proofs.withdraw.Reads as withdraw-reads
 
 -- `Calls file lent call done`: the contract of the call's function allows this answer and these areas after it. Each parameter as the
 -- function leaves it has a name of its own, so that what stays is learnt from the contract and from nothing else.

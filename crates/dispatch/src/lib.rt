@@ -2,10 +2,10 @@
 pub use answers::Answer;
 pub use answers::Counted;
 pub use answers::Granted;
-pub use board_calls::close;
-pub use board_calls::interval;
-pub use board_calls::open;
-pub use board_calls::withdraw;
-pub use light_calls::audit;
-pub use light_calls::post;
-pub use route_call::route;
+pub use desk_board::close;
+pub use desk_board::interval;
+pub use desk_board::open;
+pub use desk_board::withdraw;
+pub use desk_light::audit;
+pub use desk_light::post;
+pub use desk_route::route;

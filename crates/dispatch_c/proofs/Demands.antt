@@ -1,5 +1,5 @@
 -- The demands, of the exported functions: over what their contracts promise, and nothing else of the code, with the number and the
--- values read back from the word that is returned. `Learnt` and its arguments are those of crates/board_calls/proofs/Exact.antt.
+-- values read back from the word that is returned. `Learnt` and its arguments are those of crates/desk_board/proofs/Exact.antt.
 -- Assumes nothing.
 use Prim.Native.Nat.{ℕ}
 use mathlib.Core.Path.{_≡_, refl}

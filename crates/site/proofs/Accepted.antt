@@ -7,22 +7,22 @@ use native.Mathlib.Omega.{arith}
 use Rattle.meaning.specs.Answers.{Answer, accepted, refused}
 use Rattle.meaning.specs.Site.{Site, siteOf, readSite}
 use Rattle.meaning.proofs.SiteLaws.{read-site, read-passes}
-use Rattle.layout.specs.Laid.{Laid}
-use Rattle.site.specs.declared.Layout.{Layout}
-use Rattle.site.specs.declared.SiteCheck.the-variants.{Accepted, Refused}
-use Rattle.site.specs.Check.{checkOf, layoutOf}
+use Rattle.site_layout.specs.Laid.{Laid}
+use Rattle.site.specs.declared.Sizes.{Sizes}
+use Rattle.site.specs.declared.Check.the-variants.{Passed, Refused}
+use Rattle.site.specs.Check.{checkOf, sizesOf}
 
 -- a file that is read is laid out well
 pub read-laid : (file : List ℕ) (site : Site) → readSite file ≡ accepted site → Laid file
 read-laid file site e = let p = read-passes file site e in record { whole = p .whole; head = p .head; layout = p .layout }
 
 -- the accepted answer: the file is read as its site, and the answer says the site's counts
-module _ (file : List ℕ) (l : Layout) (e : Accepted l ≡ checkOf (readSite file)) where
-  as-read : (site : Site) × (readSite file ≡ accepted site) × (l ≡ layoutOf site)
+module _ (file : List ℕ) (l : Sizes) (e : Passed l ≡ checkOf (readSite file)) where
+  as-read : (site : Site) × (readSite file ≡ accepted site) × (l ≡ sizesOf site)
   unfolding checkOf
   as-read = go (readSite file) e
     where
-      go : (r : Answer Site) → Accepted l ≡ checkOf r → (site : Site) × (r ≡ accepted site) × (l ≡ layoutOf site)
+      go : (r : Answer Site) → Passed l ≡ checkOf r → (site : Site) × (r ≡ accepted site) × (l ≡ sizesOf site)
       go (accepted site) q = (site, refl, cc)
       go (refused n) q = let z : _≡_ {A = ℕ} 0 1 = cc in absurd (omega arith)
 
@@ -32,8 +32,8 @@ module _ (file : List ℕ) (l : Layout) (e : Accepted l ≡ checkOf (readSite fi
   pub accepted-read : readSite file ≡ accepted (siteOf file)
   accepted-read = as-read .1 ∙ ap accepted (sym same-site)
 
-  pub accepted-layout : l ≡ layoutOf (siteOf file)
-  accepted-layout = as-read .2 ∙ ap layoutOf (sym same-site)
+  pub accepted-layout : l ≡ sizesOf (siteOf file)
+  accepted-layout = as-read .2 ∙ ap sizesOf (sym same-site)
 
 -- a refused answer says the number
 pub refused-read : (file : List ℕ) (k : ℕ) → Refused k ≡ checkOf (readSite file) → readSite file ≡ refused k

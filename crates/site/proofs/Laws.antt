@@ -20,11 +20,11 @@ use Rattle.meaning.proofs.MotionLaws.{and-four}
 use Rattle.fields.specs.declared.Header.{Header}
 use Rattle.fields.specs.Places.{fieldsAt, fieldAt, Next, Whole}
 use Rattle.fields.proofs.Laws.{listed-end, next-is, value-length, value-byte, value-u16}
-use Rattle.sweeps.specs.Places.{sweepsAt}
-use Rattle.layout.specs.Laid.{statePlace, Laid}
-use Rattle.layout.proofs.Laws.{laid-count, laid-after, laid-motions}
-use Rattle.site.specs.declared.Move.{Move}
-use Rattle.site.specs.Motions.{Shows, Motions, MotionPlace}
+use Rattle.site_sweeps.specs.Places.{sweepsAt}
+use Rattle.site_layout.specs.Laid.{statePlace, Laid}
+use Rattle.site_layout.proofs.Laws.{laid-count, laid-after, laid-motions}
+use Rattle.site.specs.declared.Motion as ReadMotion
+use Rattle.site.specs.Motions.{MotionIs, Motions, MotionPlace}
 
 -- ---- a test of what a list has from a number on
 
@@ -111,7 +111,7 @@ motion-read file at h w e =
     }
 
 -- the motion's test, by what was read of it
-pub motion-test : (file : List ℕ) (site : Site) (m : Motion) (r : Move) (cells count : ℕ) → Shows file m r → cells ≡ site .cells → count ≡ length (site .states) →
+pub motion-test : (file : List ℕ) (site : Site) (m : Motion) (r : ReadMotion.Motion) (cells count : ℕ) → MotionIs file m r → cells ≡ site .cells → count ≡ length (site .states) →
     motionGood site m ≡ (endsGood count (r .from) (r .to) (r .span)
     && sweepsGood cells (cellOf site (r .from)) (cellOf site (r .to)) (r .span) (sweepsAt file (r .first) (r .count)))
 unfolding motionGood

@@ -12,12 +12,12 @@ use Rattle.meaning.specs.Answers.{lowest, answer}
 use Rattle.meaning.specs.Fields.{fields, complete, listed}
 use Rattle.meaning.specs.Site.{siteOf, siteRefusals, readSite, headOf, headGood, layoutGood, stateCount, laterOf, cellGood, motionGood, motionOf}
 use Rattle.fields.specs.Places.{fieldsAt}
-use Rattle.layout.specs.Laid.{statePlace, HeadIs, Laid}
-use Rattle.layout.specs.declared.Head.{Head}
-use Rattle.layout.proofs.Laws.{HeadHere, laid-count}
-use Rattle.site.specs.declared.SiteCheck.the-variants.{Accepted, Refused}
+use Rattle.site_layout.specs.Laid.{statePlace, HeadIs, Laid}
+use Rattle.site_layout.specs.declared.Head.{Head}
+use Rattle.site_layout.proofs.Laws.{HeadHere, laid-count}
+use Rattle.site.specs.declared.Check.the-variants.{Passed, Refused}
 use Rattle.site.specs.Motions.{Motions}
-use Rattle.site.specs.Check.{checkOf, layoutOf}
+use Rattle.site.specs.Check.{checkOf, sizesOf}
 use Rattle.site.proofs.Laws.{laid-start}
 
 refused-by : (file : List ℕ) (n : ℕ) → lowest (siteRefusals file) ≡ suc n → checkOf (readSite file) ≡ Refused (suc n)
@@ -52,7 +52,7 @@ module _ (file : List ℕ) (l : length file ≤ fileLimit) where
       unfolding siteRefusals lowest
       number-6 e = refused-by file 5 (simp (le-leb (length file) fileLimit l, d .whole, d .head, d .layout, s, e))
 
-      pub number-0 : all (motionGood (siteOf file)) (siteOf file .motions) ≡ true → checkOf (readSite file) ≡ Accepted (layoutOf (siteOf file))
+      pub number-0 : all (motionGood (siteOf file)) (siteOf file .motions) ≡ true → checkOf (readSite file) ≡ Passed (sizesOf (siteOf file))
       unfolding siteRefusals lowest readSite answer checkOf
       number-0 e =
           let z : lowest (siteRefusals file) ≡ 0 = simp (le-leb (length file) fileLimit l, d .whole, d .head, d .layout, s, e) in
@@ -64,8 +64,8 @@ pub layout-same : (file : List ℕ) (head : Head) → HeadHere file → HeadIs f
 layout-same file head h e = rw (h .later, e .states, e .start)
 
 same-layout : {h h′ c c′ s s′ m m′ t t′ : ℕ} → h ≡ h′ → c ≡ c′ → s ≡ s′ → m ≡ m′ → t ≡ t′ →
-    Accepted (record { horizon = h; cells = c; states = s; motions = m; start = t }) ≡ Accepted (record { horizon = h′; cells = c′; states = s′; motions = m′; start = t′ })
-same-layout p q r s t = λ i. Accepted (record { horizon = p i; cells = q i; states = r i; motions = s i; start = t i })
+    Passed (record { horizon = h; cells = c; states = s; motions = m; start = t }) ≡ Passed (record { horizon = h′; cells = c′; states = s′; motions = m′; start = t′ })
+same-layout p q r s t = λ i. Passed (record { horizon = p i; cells = q i; states = r i; motions = s i; start = t i })
 
 module _ (file : List ℕ) (d : Laid file) (head : Head) (e : HeadIs file head) where
   pub count-is : head .states ≡ length (siteOf file .states)
@@ -75,7 +75,7 @@ module _ (file : List ℕ) (d : Laid file) (head : Head) (e : HeadIs file head) 
   motions-start start p = laid-start file start d (p ∙ ap statePlace count-is)
 
   pub accepted-is : (start n : ℕ) → start ≡ statePlace (head .states) → n ≡ length (listed (fieldsAt file start)) →
-      Accepted (layoutOf (siteOf file)) ≡ Accepted (record { horizon = head .horizon; cells = head .cells; states = head .states; motions = n; start = start })
+      Passed (sizesOf (siteOf file)) ≡ Passed (record { horizon = head .horizon; cells = head .cells; states = head .states; motions = n; start = start })
   accepted-is start n p q =
       let m : length (siteOf file .motions) ≡ length (listed (fieldsAt file start)) = ap length (motions-start start p .1) ∙ simp length-map in
       same-layout (sym (e .horizon)) (sym (e .cells)) (sym count-is) (m ∙ sym q) (sym (p ∙ ap statePlace count-is))

@@ -3,14 +3,14 @@
 use lib.ListN.{length}
 use Rattle.meaning.specs.Answers.{Answer, accepted, refused}
 use Rattle.meaning.specs.Site.{Site}
-use Rattle.layout.specs.Laid.{statePlace}
-use Rattle.site.specs.declared.Layout.{Layout}
-use Rattle.site.specs.declared.SiteCheck.{SiteCheck}
-use Rattle.site.specs.declared.SiteCheck.the-variants.{Accepted, Refused}
+use Rattle.site_layout.specs.Laid.{statePlace}
+use Rattle.site.specs.declared.Sizes.{Sizes}
+use Rattle.site.specs.declared.Check.{Check}
+use Rattle.site.specs.declared.Check.the-variants.{Passed, Refused}
 
 -- what is said of an accepted site: H, C, the counts, and where the motions start
-abbrev pub layoutOf : Site → Layout
-layoutOf site =
+abbrev pub sizesOf : Site → Sizes
+sizesOf site =
     record {
       horizon = site .horizon;
       cells = site .cells;
@@ -19,6 +19,6 @@ layoutOf site =
       start = statePlace (length (site .states));
     }
 
-unfoldable pub checkOf : Answer Site → SiteCheck
-checkOf (accepted site) = Accepted (layoutOf site)
+unfoldable pub checkOf : Answer Site → Check
+checkOf (accepted site) = Passed (sizesOf site)
 checkOf (refused n) = Refused n

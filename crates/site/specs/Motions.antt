@@ -9,11 +9,11 @@ use Rattle.meaning.specs.Basics.{all}
 use Rattle.meaning.specs.Fields.{complete, listed}
 use Rattle.meaning.specs.Site.{Motion, isMotion, motionOf, motionAt, siteOf}
 use Rattle.fields.specs.Places.{fieldsAt, fieldAt}
-use Rattle.sweeps.specs.Places.{sweepsAt}
-use Rattle.site.specs.declared.Move.{Move}
+use Rattle.site_sweeps.specs.Places.{sweepsAt}
+use Rattle.site.specs.declared.Motion as ReadMotion
 
 -- what r says is the motion m: its numbers, and where its sweeps stand
-pub record Shows (file : List ℕ) (m : Motion) (r : Move) : Type 0 where
+pub record MotionIs (file : List ℕ) (m : Motion) (r : ReadMotion.Motion) : Type 0 where
   pub from : r .from ≡ m .from
   pub to : r .to ≡ m .to
   pub span : r .span ≡ m .span

@@ -1,5 +1,5 @@
 // The site file: refusals 1 to 6, and access to what an accepted file says.
-use layout::Head;
+use site_layout::Head;
 ghost use mathlib.Core.Path.{_≡_};
 ghost use mathlib.Core.Bool.{true};
 ghost use mathlib.Core.List.{map};
@@ -9,8 +9,8 @@ ghost use Rattle.meaning.specs.Basics.{all};
 ghost use Rattle.meaning.specs.Fields.{complete, listed};
 ghost use Rattle.meaning.specs.Site.{siteOf, stateAt, motionAt, motionOf, isMotion, cellGood, endsGood, motionGood, readSite};
 ghost use Rattle.fields.specs.Places.{fieldsAt, fieldAt};
-ghost use Rattle.layout.specs.Laid.{statePlace, HeadIs, Laid};
-ghost use Rattle.site.specs.Motions.{Shows, Motions, Index};
+ghost use Rattle.site_layout.specs.Laid.{statePlace, HeadIs, Laid};
+ghost use Rattle.site.specs.Motions.{MotionIs, Motions, Index};
 ghost use Rattle.site.specs.Check.{checkOf};
 
 // Where the state `i` starts: the head has 8 bytes, and each state has 5.
@@ -53,7 +53,7 @@ fn states_good(file: &[u8], count: usize, cells: u8) -> bool
 }
 
 // A motion: its numbers, and the place and the count of its sweeps.
-pub struct Move {
+pub struct Motion {
     pub from: usize,
     pub to: usize,
     pub span: u8,
@@ -62,19 +62,19 @@ pub struct Move {
 }
 
 // The motion whose field starts at `at`.
-pub fn read_motion(file: &[u8], at: usize) -> Move
+pub fn read_motion(file: &[u8], at: usize) -> Motion
     requires { ⌜ (complete (fieldsAt (now file) at) ≡ true) × (at < length (now file)) × (isMotion (fieldAt (now file) at) ≡ true) ⌝ }
-    ensures { λ r. ⌜ Shows (now (file .entry)) (motionOf (fieldAt (now (file .entry)) at)) r ⌝ }
+    ensures { λ r. ⌜ MotionIs (now (file .entry)) (motionOf (fieldAt (now (file .entry)) at)) r ⌝ }
 {
     let h = fields::header_at(file, at);
     let start = h.start;
     let len = h.len;
-    Move {
+    Motion {
         from: fields::number_at(file, start),
         to: fields::number_at(file, start + 2),
         span: file[start + 4],
         first: start + 5,
-        count: layout::sweep_count(len),
+        count: site_layout::sweep_count(len),
     }
 }
 
@@ -109,7 +109,7 @@ fn motion_good(file: &[u8], at: usize, count: usize, cells: u8) -> bool
     if ends_good(from, to, span, count) {
         let x = state_cell(file, from);
         let y = state_cell(file, to);
-        sweeps::sweeps_pass(file, first, sweeps, span, cells, x, y)
+        site_sweeps::sweeps_pass(file, first, sweeps, span, cells, x, y)
     } else {
         false
     }
@@ -133,7 +133,7 @@ fn motions_good(file: &[u8], start: usize, count: usize, cells: u8) -> bool
 }
 
 // What an accepted file says of its site: H, C, the counts, and where the motions start.
-pub struct Layout {
+pub struct Sizes {
     pub horizon: usize,
     pub cells: u8,
     pub states: usize,
@@ -141,13 +141,14 @@ pub struct Layout {
     pub start: usize,
 }
 
-pub enum SiteCheck {
-    Accepted(Layout),
+// What checks answer: all passed, with the sizes of the site, or the lowest number that applies.
+pub enum Check {
+    Passed(Sizes),
     Refused(u8),
 }
 
 // The checks 5 and 6, in a file that passed those before.
-fn check_values(file: &[u8], head: Head) -> SiteCheck
+fn check_values(file: &[u8], head: Head) -> Check
     requires { ⌜ (length (now file) ≤ 65536) × Laid (now file) × HeadIs (now file) head ⌝ }
     ensures { λ r. ⌜ r ≡ checkOf (readSite (now (file .entry))) ⌝ }
 {
@@ -157,12 +158,12 @@ fn check_values(file: &[u8], head: Head) -> SiteCheck
     let states_pass = states_good(file, count, cells);
     let motions_pass = motions_good(file, start, count, cells);
     if !states_pass {
-        return SiteCheck::Refused(5);
+        return Check::Refused(5);
     }
     if !motions_pass {
-        return SiteCheck::Refused(6);
+        return Check::Refused(6);
     }
-    SiteCheck::Accepted(Layout {
+    Check::Passed(Sizes {
         horizon: head.horizon,
         cells,
         states: count,
@@ -172,21 +173,21 @@ fn check_values(file: &[u8], head: Head) -> SiteCheck
 }
 
 // The check of any file: accepted, or the lowest number that applies.
-pub fn check_site(file: &[u8]) -> SiteCheck
+pub fn check_site(file: &[u8]) -> Check
     ensures { λ r. ⌜ r ≡ checkOf (readSite (now (file .entry))) ⌝ }
 {
     if 65536 < file.len() {
-        return SiteCheck::Refused(1);
+        return Check::Refused(1);
     }
     if !fields::fields_complete(file) {
-        return SiteCheck::Refused(2);
+        return Check::Refused(2);
     }
-    if !layout::head_good(file) {
-        return SiteCheck::Refused(3);
+    if !site_layout::head_good(file) {
+        return Check::Refused(3);
     }
-    let head = layout::read_head(file);
-    if !layout::layout_good(file, head.start, head.states) {
-        return SiteCheck::Refused(4);
+    let head = site_layout::read_head(file);
+    if !site_layout::layout_good(file, head.start, head.states) {
+        return Check::Refused(4);
     }
     check_values(file, head)
 }
@@ -208,9 +209,9 @@ pub fn motion_index(file: &[u8], start: usize) -> [u16; 2000]
 }
 
 // The motion of the number `k`, by the index.
-pub fn motion(file: &[u8], index: &[u16; 2000], k: usize) -> Move
+pub fn motion_at(file: &[u8], index: &[u16; 2000], k: usize) -> Motion
     requires { ⌜ Laid (now file) × Index (now file) (now index) × (k < length (siteOf (now file) .motions)) ⌝ }
-    ensures { λ r. ⌜ Shows (now (file .entry)) (motionAt (siteOf (now (file .entry))) k) r ⌝ }
+    ensures { λ r. ⌜ MotionIs (now (file .entry)) (motionAt (siteOf (now (file .entry))) k) r ⌝ }
 {
     let at = index[k] as usize;
     read_motion(file, at)

@@ -11,8 +11,8 @@ use Rattle.board.proofs.Laws.{arm}
 use Rattle.board.proofs.carries.Statement.{statement}
 use Rattle.board.proofs.carries.Tie as tie
 
-sort-requires : tie.Need-sort-requires
-sort-requires c κs = search needs
+sort-of-requires : tie.Need-sort-of-requires
+sort-of-requires c κs = search needs
 
 -- a byte of this sort carries h
 abbrev carried : ℕ → ℕ → Sort → Bool
@@ -22,15 +22,15 @@ returns : tie.Need-returns
 unfolding isHolder
 returns c =
     let a = c .before .before .args in
-    let s = c .before .sort in
+    let s = c .before .sort-of in
     arm (carried (a .b) (a .h)) (eqb (a .b) (a .h)) (1 ∷ 2 ∷ []) _ (s .result) (c .match .keys1) (s .ensures) (refl, (refl, tt))
 
 returns-2 : tie.Need-returns-2
 unfolding isHolder
 returns-2 c =
     let a = c .before .before .args in
-    let s = c .before .sort in
+    let s = c .before .sort-of in
     arm (carried (a .b) (a .h)) false (0 ∷ 3 ∷ []) _ (s .result) (c .match .keys2) (s .ensures) (refl, (refl, tt))
 
 pub carries-spec : {M : Type 1} → statement M
-carries-spec = tie.close (tie.spec sort-requires returns returns-2)
+carries-spec = tie.close (tie.spec sort-of-requires returns returns-2)

@@ -9,19 +9,19 @@ use Rattle.board.proofs.Laws.{arm}
 use Rattle.board.proofs.is_closure.Statement.{statement}
 use Rattle.board.proofs.is_closure.Tie as tie
 
-sort-requires : tie.Need-sort-requires
-sort-requires c κs = search needs
+sort-of-requires : tie.Need-sort-of-requires
+sort-of-requires c κs = search needs
 
 enum-told : tie.Need-enum-told
 enum-told c = search needs
 
 returns : tie.Need-returns
 unfolding isClosure
-returns c = let s = c .before .before .sort in arm closureSort true (2 ∷ []) _ (s .result) (c .before .match .keys1) (s .ensures) (refl, tt)
+returns c = let s = c .before .before .sort-of in arm closureSort true (2 ∷ []) _ (s .result) (c .before .match .keys1) (s .ensures) (refl, tt)
 
 returns-2 : tie.Need-returns-2
 unfolding isClosure
-returns-2 c = let s = c .before .sort in arm closureSort false (0 ∷ 1 ∷ 3 ∷ []) _ (s .result) (c .match .keys2) (s .ensures) (refl, (refl, (refl, tt)))
+returns-2 c = let s = c .before .sort-of in arm closureSort false (0 ∷ 1 ∷ 3 ∷ []) _ (s .result) (c .match .keys2) (s .ensures) (refl, (refl, (refl, tt)))
 
 pub is-closure-spec : {M : Type 1} → statement M
-is-closure-spec = tie.close (tie.spec sort-requires enum-told returns returns-2)
+is-closure-spec = tie.close (tie.spec sort-of-requires enum-told returns returns-2)

@@ -8,17 +8,17 @@ use Rattle.board.proofs.Laws.{arm, freeSort, free-sort}
 use Rattle.board.proofs.is_free_byte.Statement.{statement}
 use Rattle.board.proofs.is_free_byte.Tie as tie
 
-sort-requires : tie.Need-sort-requires
-sort-requires c κs = search needs
+sort-of-requires : tie.Need-sort-of-requires
+sort-of-requires c κs = search needs
 
 enum-told : tie.Need-enum-told
 enum-told c = search needs
 
 returns : tie.Need-returns
-returns c = let s = c .before .before .sort in arm freeSort true (0 ∷ []) _ (s .result) (c .before .match .keys1) (s .ensures) (refl, tt) ∙ free-sort _
+returns c = let s = c .before .before .sort-of in arm freeSort true (0 ∷ []) _ (s .result) (c .before .match .keys1) (s .ensures) (refl, tt) ∙ free-sort _
 
 returns-2 : tie.Need-returns-2
-returns-2 c = let s = c .before .sort in arm freeSort false (1 ∷ 2 ∷ 3 ∷ []) _ (s .result) (c .match .keys2) (s .ensures) (refl, (refl, (refl, tt))) ∙ free-sort _
+returns-2 c = let s = c .before .sort-of in arm freeSort false (1 ∷ 2 ∷ 3 ∷ []) _ (s .result) (c .match .keys2) (s .ensures) (refl, (refl, (refl, tt))) ∙ free-sort _
 
 pub is-free-byte-spec : {M : Type 1} → statement M
-is-free-byte-spec = tie.close (tie.spec sort-requires enum-told returns returns-2)
+is-free-byte-spec = tie.close (tie.spec sort-of-requires enum-told returns returns-2)

@@ -9,16 +9,16 @@ use Rattle.board.proofs.Laws.{arm}
 use Rattle.board.proofs.is_holder.Statement.{statement}
 use Rattle.board.proofs.is_holder.Tie as tie
 
-sort-requires : tie.Need-sort-requires
-sort-requires c κs = search needs
+sort-of-requires : tie.Need-sort-of-requires
+sort-of-requires c κs = search needs
 
 returns : tie.Need-returns
 unfolding isHolder
-returns c = let s = c .before .sort in arm holderSort true (1 ∷ 2 ∷ []) _ (s .result) (c .match .keys1) (s .ensures) (refl, (refl, tt))
+returns c = let s = c .before .sort-of in arm holderSort true (1 ∷ 2 ∷ []) _ (s .result) (c .match .keys1) (s .ensures) (refl, (refl, tt))
 
 returns-2 : tie.Need-returns-2
 unfolding isHolder
-returns-2 c = let s = c .before .sort in arm holderSort false (0 ∷ 3 ∷ []) _ (s .result) (c .match .keys2) (s .ensures) (refl, (refl, tt))
+returns-2 c = let s = c .before .sort-of in arm holderSort false (0 ∷ 3 ∷ []) _ (s .result) (c .match .keys2) (s .ensures) (refl, (refl, tt))
 
 pub is-holder-spec : {M : Type 1} → statement M
-is-holder-spec = tie.close (tie.spec sort-requires returns returns-2)
+is-holder-spec = tie.close (tie.spec sort-of-requires returns returns-2)

@@ -6,7 +6,7 @@ use mathlib.Core.Bool.{true, false}
 use borrow.Author.Tests.{not-true, not-false}
 use Rattle.meaning.specs.Basics.{all}
 use Rattle.meaning.specs.Site.{siteOf, cellGood, motionGood}
-use Rattle.layout.proofs.Laws.{states-few}
+use Rattle.site_layout.proofs.Laws.{states-few}
 use Rattle.site.proofs.Numbers.{number-5, number-6, number-0, count-is, motions-start, accepted-is}
 use native.Mathlib.Omega.{arith}
 use Rattle.site.proofs.check_values.Statement.{statement}

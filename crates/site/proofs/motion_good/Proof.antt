@@ -4,7 +4,7 @@ use mathlib.Core.Path.{_≡_, sym, _∙_}
 use mathlib.Core.Bool.{true, false}
 use Rattle.meaning.specs.Site.{siteOf, motionOf, endsGood, sweepsGood, motionGood}
 use Rattle.fields.specs.Places.{fieldAt}
-use Rattle.sweeps.specs.Places.{sweepsAt}
+use Rattle.site_sweeps.specs.Places.{sweepsAt}
 use Rattle.site.proofs.Laws.{motion-test, ends-below}
 use native.Mathlib.Omega.{arith}
 use borrow.Author.Needs.{needs}

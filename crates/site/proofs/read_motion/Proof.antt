@@ -1,7 +1,7 @@
 -- `site::read_motion` meets its contract.
 -- Assumes nothing.
 use mathlib.Core.Path.{sym, ap, _∙_}
-use Rattle.sweeps.specs.Places.{sweepsAt}
+use Rattle.site_sweeps.specs.Places.{sweepsAt}
 use Rattle.site.proofs.Laws.{motion-read}
 use native.Mathlib.Omega.{arith}
 use borrow.Author.Needs.{needs}

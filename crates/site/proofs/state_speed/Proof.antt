@@ -3,7 +3,7 @@
 use Prim.Native.Nat.{ℕ, _+_}
 use mathlib.Core.Path.{sym, ap, _∙_}
 use lib.ListN.{getD}
-use Rattle.layout.proofs.Laws.{laid-place, laid-speed}
+use Rattle.site_layout.proofs.Laws.{laid-place, laid-speed}
 use native.Mathlib.Omega.{arith}
 use Rattle.site.proofs.state_speed.Statement.{statement}
 use Rattle.site.proofs.state_speed.Tie as tie

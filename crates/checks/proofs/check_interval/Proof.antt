@@ -1,0 +1,58 @@
+-- `checks::check_interval` meets its contract.
+-- Assumes nothing.
+use mathlib.Core.Path.{_≡_, sym, _∙_}
+use mathlib.Core.List.{[]}
+use borrow.Author.Needs.{needs}
+use Rattle.meaning.specs.Answers.{lowest}
+use Rattle.meaning.specs.Site.{siteOf}
+use Rattle.meaning.specs.Calls.{opening, interval, refusals, roomOf, lends, onBoard}
+use Rattle.site.specs.declared.Check.the-variants.{Passed}
+use Rattle.checks.specs.Checks.{checkBy}
+use Rattle.checks.proofs.Laws.{as-board, past-board}
+use Rattle.checks.proofs.Passes.{board-sizes, site-says}
+use Rattle.checks.proofs.check_interval.Statement.{statement}
+use Rattle.checks.proofs.check_interval.Tie as tie
+
+-- where the function began, from the arm of checks 1 to 7 passed
+abbrev start : tie.After-l → tie.Start
+start c = c .before .before .before .before .before
+
+passes : (c : tie.After-l)
+    → Passed (c .l .given .0 .0) ≡ checkBy (siteOf (start c .args .file .now)) (lowest (refusals (start c .args .file .now) (onBoard (start c .args .board .now)) opening))
+passes c = sym (c .l .given .1) ∙ c .before .before .check-board .ensures
+
+check-board-requires : tie.Need-check-board-requires
+check-board-requires c κs = search needs
+
+enum-known-l : tie.Need-enum-known-l
+enum-known-l c = search needs
+
+interval-later-requires : tie.Need-interval-later-requires
+interval-later-requires c κs = board-sizes _ (onBoard _) opening _ (passes (c .before)) .short
+
+by-number-requires : tie.Need-by-number-requires
+by-number-requires c κs = search needs
+
+enum-known-n : tie.Need-enum-known-n
+enum-known-n c = search needs
+
+returns : tie.Need-returns
+returns c = λ out size.
+    let at = c .before .before .before in
+    c .by-number .ensures ∙ past-board _ (lends _ out []) (interval _) _ _ (passes at) (c .before .interval-later .ensures _ (roomOf (lends (start at .args .board .now) out [])) (site-says _ (onBoard _) opening _ (passes at)) size)
+
+returns-2 : tie.Need-returns-2
+returns-2 c = λ out size.
+    as-board _ (lends _ out []) (interval _) _ (sym (c .before .n .given .1) ∙ c .before .before .before .check-board .ensures)
+
+pub check-interval-spec : {M : Type 1} → statement M
+check-interval-spec =
+    tie.close
+    (tie.spec
+    check-board-requires
+    enum-known-l
+    interval-later-requires
+    by-number-requires
+    enum-known-n
+    returns
+    returns-2)

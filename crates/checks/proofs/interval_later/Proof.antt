@@ -1,0 +1,25 @@
+-- `checks::interval_later` meets its contract.
+-- Assumes nothing.
+use native.Mathlib.Omega.{arith}
+use borrow.Author.Needs.{needs}
+use Rattle.checks.proofs.Laws.{interval-10, interval-14, interval-0}
+use Rattle.checks.proofs.interval_later.Statement.{statement}
+use Rattle.checks.proofs.interval_later.Tie as tie
+
+cast-if1 : tie.Need-cast-if1
+cast-if1 c = search needs
+
+returns : tie.Need-returns
+returns c = λ site areas says same. interval-10 site areas _ (omega arith)
+
+add-if2 : tie.Need-add-if2
+add-if2 c = search needs
+
+returns-2 : tie.Need-returns-2
+returns-2 c = λ site areas says same. interval-14 site areas _ (omega arith) (omega arith)
+
+returns-3 : tie.Need-returns-3
+returns-3 c = λ site areas says same. interval-0 site areas _ (omega arith) (omega arith)
+
+pub interval-later-spec : {M : Type 1} → statement M
+interval-later-spec = tie.close (tie.spec cast-if1 returns add-if2 returns-2 returns-3)

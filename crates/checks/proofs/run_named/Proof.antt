@@ -1,0 +1,25 @@
+-- `checks::run_named` meets its contract.
+-- Assumes nothing.
+use native.Mathlib.Omega.{arith}
+use Rattle.checks.proofs.Laws.{no-cell, first-late, last-late, in-order}
+use borrow.Author.Needs.{needs}
+use Rattle.checks.proofs.run_named.Statement.{statement}
+use Rattle.checks.proofs.run_named.Tie as tie
+
+cast-if1 : tie.Need-cast-if1
+cast-if1 c = search needs
+
+returns : tie.Need-returns
+returns c = λ site says. no-cell site _ _ _ (omega arith)
+
+returns-2 : tie.Need-returns-2
+returns-2 c = λ site says. first-late site _ _ _ (omega arith)
+
+returns-3 : tie.Need-returns-3
+returns-3 c = λ site says. last-late site _ _ _ (omega arith)
+
+returns-4 : tie.Need-returns-4
+returns-4 c = λ site says. in-order site _ _ _ (omega arith) (omega arith) (omega arith)
+
+pub run-named-spec : {M : Type 1} → statement M
+run-named-spec = tie.close (tie.spec cast-if1 returns returns-2 returns-3 returns-4)

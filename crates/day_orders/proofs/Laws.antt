@@ -1,0 +1,115 @@
+-- Laws of the script's fields as calls.
+-- Assumes nothing.
+use Prim.Native.Nat.{ℕ, zero, suc, _+_, _*_, _≤_, _<_}
+use native.Mathlib.Omega.{arith}
+use mathlib.Core.Path.{_≡_, refl, sym, ap, ap₂, _∙_}
+use mathlib.Core.Bool.{Bool, true, false, _&&_}
+use mathlib.Core.List.{List, [], _∷_}
+use lib.Dec.{eqb}
+use lib.ListN.{length, getD}
+use borrow.Author.Tests.{eqb-true, le-leb, lt-leb}
+use Rattle.meaning.specs.Limits.{closeTag, withdrawTag, routeTag, postTag, closeSize, withdrawSize, routeSize}
+use Rattle.meaning.specs.Basics.{u16At}
+use Rattle.meaning.specs.Fields.{Field}
+use Rattle.meaning.specs.Day.{isField, callOf, wanted}
+use Rattle.meaning.proofs.BasicsLaws.{decide, and-right}
+use Rattle.fields.specs.Places.{fieldAt, Whole}
+use Rattle.fields.specs.declared.Header.{Header}
+use Rattle.fields.proofs.Laws.{whole-length, whole-byte, whole-u16}
+use Rattle.day_orders.specs.declared.Order.{Order}
+use Rattle.day_orders.specs.declared.Order.the-variants.{Close, Withdraw, Route, Post}
+use Rattle.day_orders.specs.declared.Entry.the-variants.{Call, Bad, End}
+use Rattle.day_orders.specs.Orders.{entryBy, entryCall}
+
+-- ---- how much is read
+
+pub wanted-few : (s : List ℕ) (n : ℕ) → n ≡ u16At s 1 → n ≤ routeSize → n ≡ wanted s
+unfolding wanted
+wanted-few s n e h = let few = le-leb (u16At s 1) routeSize (omega arith) in e ∙ rw few refl
+
+pub wanted-many : (s : List ℕ) (n : ℕ) → n ≡ u16At s 1 → routeSize < n → 0 ≡ wanted s
+unfolding wanted
+wanted-many s n e h = let many = lt-leb (u16At s 1) routeSize (omega arith) in rw many refl
+
+-- the high byte alone is 0, or the length is too much
+pub wanted-cut : (s : List ℕ) → length s < 3 → 0 ≡ wanted s
+unfolding wanted
+wanted-cut [] h = refl
+wanted-cut (t ∷ []) h = refl
+wanted-cut (t ∷ zero ∷ []) h = refl
+wanted-cut (t ∷ suc n ∷ []) h = wanted-many (t ∷ suc n ∷ []) (suc n * 256) (omega arith) (omega arith)
+wanted-cut (t ∷ n ∷ l ∷ s) h = absurd (omega arith)
+
+-- ---- the call that is meant
+
+pub entry-call : (light : List ℕ) (f : Field) → entryCall light (entryBy f) ≡ callOf light f
+unfolding entryBy callOf
+entry-call light f =
+    decide (isField f closeTag closeSize) (λ e. rw e refl)
+    (λ e. decide (isField f withdrawTag withdrawSize) (λ g. rw (e, g) refl)
+    (λ g. decide (isField f routeTag routeSize) (λ h. rw (e, g, h) refl)
+    (λ h. decide (isField f postTag 0) (λ k. rw (e, g, h, k) refl) (λ k. rw (e, g, h, k) refl))))
+
+-- a field is not the script's end
+pub not-end : (f : Field) → End ≡ entryBy f → ⊥
+unfolding entryBy
+not-end f n =
+    decide (isField f closeTag closeSize) (λ e. no (rw e at n))
+    (λ e. decide (isField f withdrawTag withdrawSize) (λ g. no (rw (e, g) at n))
+    (λ g. decide (isField f routeTag routeSize) (λ h. no (rw (e, g, h) at n))
+    (λ h. decide (isField f postTag 0) (λ k. no (rw (e, g, h, k) at n)) (λ k. let z : End ≡ Bad = rw (e, g, h, k) at n in let y : _≡_ {A = ℕ} 0 1 = cc in omega arith))))
+  where
+    no : {o : Order} → End ≡ Call o → ⊥
+    no z = let y : _≡_ {A = ℕ} 0 1 = cc in omega arith
+
+-- ---- a whole field at the front
+
+module _ (s : List ℕ) (h : Header) (w : Whole s 0 h) where
+  abbrev f : Field
+  f = fieldAt s 0
+
+  -- the test of tag and length is the field's
+  pub told : (tag size : ℕ) (r b : Bool) → r ≡ (eqb (h .tag) tag && eqb (h .len) size) → r ≡ b → isField f tag size ≡ b
+  unfolding fieldAt
+  told tag size r b e t =
+      ap₂ (λ (m n : ℕ). eqb m tag && eqb n size) (sym (w .tag)) (whole-length s 0 h w) ∙ sym e ∙ t
+
+  pub sized : (tag size : ℕ) (r : Bool) → r ≡ (eqb (h .tag) tag && eqb (h .len) size) → r ≡ true → (h .len ≡ size) × (h .start + size ≤ length s)
+  sized tag size r e t =
+      let n : h .len ≡ size = eqb-true (h .len) size (and-right (eqb (h .tag) tag) (eqb (h .len) size) (sym e ∙ t)) in
+      let a = w .start in
+      let b = w .next in
+      let i = w .inside in
+      (n, omega arith)
+
+  first-byte : 0 < h .len → getD (f .value) 0 0 ≡ getD s (h .start) 0
+  first-byte p = let z : h .start + 0 ≡ h .start = omega arith in whole-byte s 0 h w 0 p ∙ ap (λ (k : ℕ). getD s k 0) z
+
+  -- what the code returns for each call
+  pub close-entry : (first last : ℕ) → 6 ≤ h .len → isField f closeTag closeSize ≡ true → first ≡ u16At s (h .start + 2) → last ≡ u16At s (h .start + 4)
+      → Call (Close (getD s (h .start) 0) (getD s (h .start + 1) 0) first last) ≡ entryBy f
+  unfolding entryBy
+  close-entry first last p e a b =
+      rw (e, first-byte (omega arith), whole-byte s 0 h w 1 (omega arith), whole-u16 s 0 h w 2 (omega arith), whole-u16 s 0 h w 4 (omega arith), a, b) refl
+
+  pub withdraw-entry : 1 ≤ h .len → isField f closeTag closeSize ≡ false → isField f withdrawTag withdrawSize ≡ true
+      → Call (Withdraw (getD s (h .start) 0)) ≡ entryBy f
+  unfolding entryBy
+  withdraw-entry p c e = rw (c, e, first-byte p) refl
+
+  pub route-entry : (start tick goal : ℕ) → 7 ≤ h .len → isField f closeTag closeSize ≡ false → isField f withdrawTag withdrawSize ≡ false → isField f routeTag routeSize ≡ true
+      → start ≡ u16At s (h .start + 1) → tick ≡ u16At s (h .start + 3) → goal ≡ u16At s (h .start + 5)
+      → Call (Route (getD s (h .start) 0) start tick goal) ≡ entryBy f
+  unfolding entryBy
+  route-entry start tick goal p c d e a b g =
+      rw (c, d, e, first-byte (omega arith), whole-u16 s 0 h w 1 (omega arith), whole-u16 s 0 h w 3 (omega arith), whole-u16 s 0 h w 5 (omega arith), a, b, g) refl
+
+  pub post-entry : isField f closeTag closeSize ≡ false → isField f withdrawTag withdrawSize ≡ false → isField f routeTag routeSize ≡ false → isField f postTag 0 ≡ true
+      → Call Post ≡ entryBy f
+  unfolding entryBy
+  post-entry c d e g = rw (c, d, e, g) refl
+
+  pub bad-entry : isField f closeTag closeSize ≡ false → isField f withdrawTag withdrawSize ≡ false → isField f routeTag routeSize ≡ false → isField f postTag 0 ≡ false
+      → Bad ≡ entryBy f
+  unfolding entryBy
+  bad-entry c d e g = rw (c, d, e, g) refl

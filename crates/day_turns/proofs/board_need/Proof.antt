@@ -1,0 +1,69 @@
+-- `day_turns::board_need` meets its contract.
+-- Assumes nothing.
+use native.Mathlib.Omega.{arith}
+use mathlib.Core.Path.{_≡_, sym, _∙_}
+use borrow.Author.Needs.{needs}
+use Rattle.meaning.specs.Site.{readSite}
+use Rattle.site.specs.Check.{checkOf}
+use Rattle.site.specs.declared.Check.the-variants as Check
+use Rattle.day_turns.proofs.OpeningLaws.{short, small, takes-all, takes-part, not-read}
+use Rattle.day_turns.proofs.board_need.Statement.{statement}
+use Rattle.day_turns.proofs.board_need.Tie as tie
+
+-- where the function began, from the arm of an accepted file
+abbrev start : tie.After-l → tie.Start
+start c = c .before .before .before .before
+
+accepted : (c : tie.After-l) → Check.Passed (c .l .given .0 .0) ≡ checkOf (readSite (start c .args .file .now))
+accepted c = sym (c .l .given .1) ∙ c .before .before .check-site .ensures
+
+check-site-requires : tie.Need-check-site-requires
+check-site-requires c κs = search needs
+
+enum-known-l : tie.Need-enum-known-l
+enum-known-l c = search needs
+
+cast-size : tie.Need-cast-size
+cast-size c = search needs
+
+add-size : tie.Need-add-size
+add-size c = let at = c .before .before .before in omega (arith, short (start at .args .file .now) _ (accepted at))
+
+mul-size : tie.Need-mul-size
+mul-size c = let at = c .before .before .before in omega (arith, small (start at .args .file .now) _ (accepted at))
+
+add-size-2 : tie.Need-add-size-2
+add-size-2 c = let at = c .before .before .before in omega (arith, small (start at .args .file .now) _ (accepted at))
+
+returns : tie.Need-returns
+returns c =
+    let at = c .before .before .before .before in
+    (omega arith, λ z. takes-all (start at .args .file .now) _ (accepted at) (start at .args .room) (c .if1 .taken))
+
+enum-told : tie.Need-enum-told
+enum-told c = search needs
+
+returns-2 : tie.Need-returns-2
+returns-2 c =
+    let at = c .before .before .before .before in
+    (c .if1 .left, λ z. takes-part (start at .args .file .now) _ (accepted at) (start at .args .room) (c .if1 .left))
+
+returns-3 : tie.Need-returns-3
+returns-3 c =
+    let f = c .before .before .before .before .args .file .now in
+    (omega arith, λ z. absurd (not-read f _ (sym (c .enum-told .given .1) ∙ c .before .before .check-site .ensures) z))
+
+pub board-need-spec : {M : Type 1} → statement M
+board-need-spec =
+    tie.close
+    (tie.spec
+    check-site-requires
+    enum-known-l
+    cast-size
+    add-size
+    mul-size
+    add-size-2
+    returns
+    enum-told
+    returns-2
+    returns-3)

@@ -1,0 +1,11 @@
+-- `day_turns::ended` meets its contract.
+-- Assumes nothing.
+use mathlib.Core.Path.{refl}
+use Rattle.day_turns.proofs.ended.Statement.{statement}
+use Rattle.day_turns.proofs.ended.Tie as tie
+
+returns : tie.Need-returns
+returns c = refl
+
+pub ended-spec : {M : Type 1} → statement M
+ended-spec = tie.close (tie.spec returns)

@@ -1,0 +1,87 @@
+-- A turn of the day program: what a call told, the day as the code holds it, and how the board is opened.
+-- Assumes nothing.
+use Prim.Native.Nat.{ℕ, zero, suc, _≤_}
+use mathlib.Core.Path.{_≡_}
+use mathlib.Core.Bool.{Bool, true, false}
+use mathlib.Core.Option.{Option, none, some}
+use mathlib.Core.List.{List}
+use lib.ListN.{length, take}
+use Rattle.io.specs.Counts.{Counts}
+use Rattle.meaning.specs.Limits.{header, dayArea, dayWords}
+use Rattle.meaning.specs.Fields.{Fields}
+use Rattle.meaning.specs.Calls.{Call}
+use Rattle.meaning.specs.Day.{Day, dayDone, arrivalOf, lineOf, dayAfter, textOf, texts, lineNext, dayNext}
+use Rattle.answers.specs.declared.Answer.{Answer}
+use Rattle.answers.specs.declared.Granted.{Granted}
+use Rattle.answers.specs.declared.Granted.the-variants as G
+use Rattle.answers.specs.Answers.{numberOf}
+use Rattle.day_turns.specs.declared.Told.{Told}
+use Rattle.day_turns.specs.declared.Outcome.{Outcome}
+use Rattle.day_turns.specs.declared.Opening.{Opening}
+use Rattle.day_turns.specs.declared.Opening.the-variants.{Opened, Refused}
+
+-- ---- what a turn asks
+
+-- the output area and the working words, by their lengths, and the last granted light's length
+pub record Areas (out words light : ℕ) : Type 0 where
+  pub out-size : out ≡ dayArea
+  pub words-size : words ≡ dayWords
+  pub light-inside : light ≤ dayArea
+
+-- ---- a call
+
+abbrev pub changedTold : Answer → ℕ → Told
+changedTold a light = record { number = numberOf a; arrival = 0; light = light }
+
+abbrev pub routedTold : Granted → ℕ → Told
+routedTold (G.Granted len arrival) light = record { number = 0; arrival = arrival; light = len }
+routedTold (G.Refused n) light = record { number = n; arrival = 0; light = light }
+
+-- the last granted light is the front of the output area
+abbrev pub dayAt : List ℕ → List ℕ → ℕ → Day
+dayAt board out light = record { board = board; light = take light out }
+
+-- a call on the day d told r and left the day after
+pub record Performed (file : List ℕ) (d : Day) (c : Call) (r : Told) (after : Day) : Type 0 where
+  pub number : r .number ≡ dayDone file d c .number
+  pub arrival : r .arrival ≡ arrivalOf (dayDone file d c .values)
+  pub day : after ≡ dayAfter d (dayDone file d c)
+
+-- ---- a turn
+
+-- the call's line is written, and the program goes on
+pub record Obeyed (file : List ℕ) (d : Day) (c : Call) (r : Outcome) (line : List ℕ) (after : Day) : Type 0 where
+  pub going : r .going ≡ true
+  pub few : r .light ≤ dayArea
+  pub counted : Counts (r .text) line
+  pub text : take (r .text) line ≡ textOf (lineOf (dayDone file d c))
+  pub day : after ≡ dayAfter d (dayDone file d c)
+
+-- the day after a turn; nothing where the program ends
+abbrev pub dayIf : Bool → Day → Option Day
+dayIf true d = some d
+dayIf false d = none
+
+-- the outcome of a turn after which the program ends
+abbrev pub lastTurn : ℕ → ℕ → Outcome
+lastTurn light text = record { going = false; light = light; text = text }
+
+-- a turn over the fields fs, on the day d, wrote the turn's line and left the day after
+pub record Turned (file : List ℕ) (fs : Fields) (d : Day) (r : Outcome) (line : List ℕ) (after : Day) : Type 0 where
+  pub few : r .light ≤ dayArea
+  pub counted : Counts (r .text) line
+  pub text : take (r .text) line ≡ texts (lineNext file fs d)
+  pub day : dayIf (r .going) after ≡ dayNext file fs d
+
+-- ---- the opening
+
+-- what is answered for a board of that length, by the number of opening it
+abbrev pub startBy : ℕ → ℕ → Opening
+startBy size zero = Opened size
+startBy size (suc n) = Refused (suc n)
+
+-- the board is the first n bytes of the area
+pub record Opens (n : ℕ) (area board : List ℕ) : Type 0 where
+  pub has-edition : header ≤ n
+  pub inside : n ≤ length area
+  pub front : take n area ≡ board

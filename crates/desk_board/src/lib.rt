@@ -1,0 +1,70 @@
+// The public calls of the board alone. Each has two halves: the checks, which only look, and the work of a call that passed them all.
+use answers::Answer;
+use answers::Counted;
+use site::Check;
+ghost use mathlib.Core.Path.{_≡_};
+ghost use mathlib.Core.List.{[]};
+ghost use Rattle.meaning.specs.Calls.{opening, interval, listed, close, withdraw, meant, lends, onBoard};
+ghost use Rattle.answers.specs.Answers.{answerOf, countedOf};
+
+// Sets every byte of the board to 0.
+pub fn open(file: &[u8], board: &mut [u8]) -> Answer
+    ensures { λ r. ⌜ r ≡ answerOf (meant (now (file .entry)) (onBoard (now (board .entry))) opening .number) ⌝ }
+    ensures { λ _. ⌜ now (board .exit) ≡ meant (now (file .entry)) (onBoard (now (board .entry))) opening .lent .board ⌝ }
+    ensures { λ _. ⌜ now (file .exit) ≡ now (file .entry) ⌝ }
+{
+    match checks::check_board(file, board) {
+        Check::Passed(_) => {
+            board::set_free(board);
+            Answer::Accepted
+        }
+        Check::Refused(n) => Answer::Refused(n),
+    }
+}
+
+// Writes the first and last tick of each safe interval of the cell, in rising order.
+pub fn interval(file: &[u8], board: &[u8], cell: u16, out: &mut [u16]) -> Counted
+    ensures { λ r. ⌜ r ≡ countedOf (meant (now (file .entry)) (lends (now (board .entry)) (now (out .entry)) []) (interval cell)) ⌝ }
+    ensures { λ _. ⌜ now (out .exit) ≡ meant (now (file .entry)) (lends (now (board .entry)) (now (out .entry)) []) (interval cell) .lent .out ⌝ }
+    ensures { λ _. ⌜ now (file .exit) ≡ now (file .entry) ⌝ }
+    ensures { λ _. ⌜ now (board .exit) ≡ now (board .entry) ⌝ }
+{
+    match checks::check_interval(file, board, cell, out.len()) {
+        Check::Passed(l) => {
+            let found = board_intervals::write_intervals(board, l.horizon, cell as usize, out);
+            let count = found as u16;
+            Counted::Counted(count)
+        }
+        Check::Refused(n) => Counted::Refused(n),
+    }
+}
+
+// Closes the cell from the tick first to the tick last, both included.
+pub fn close(file: &[u8], board: &mut [u8], holder: u8, cell: u16, first: u16, last: u16) -> Answer
+    ensures { λ r. ⌜ r ≡ answerOf (meant (now (file .entry)) (onBoard (now (board .entry))) (listed (close holder cell first last)) .number) ⌝ }
+    ensures { λ _. ⌜ now (board .exit) ≡ meant (now (file .entry)) (onBoard (now (board .entry))) (listed (close holder cell first last)) .lent .board ⌝ }
+    ensures { λ _. ⌜ now (file .exit) ≡ now (file .entry) ⌝ }
+{
+    match checks::check_close(file, board, holder, cell, first, last) {
+        Check::Passed(l) => {
+            checks::close_work(board, l.horizon, holder, cell, first, last);
+            Answer::Accepted
+        }
+        Check::Refused(n) => Answer::Refused(n),
+    }
+}
+
+// Clears every byte of one holder.
+pub fn withdraw(file: &[u8], board: &mut [u8], holder: u8) -> Answer
+    ensures { λ r. ⌜ r ≡ answerOf (meant (now (file .entry)) (onBoard (now (board .entry))) (listed (withdraw holder)) .number) ⌝ }
+    ensures { λ _. ⌜ now (board .exit) ≡ meant (now (file .entry)) (onBoard (now (board .entry))) (listed (withdraw holder)) .lent .board ⌝ }
+    ensures { λ _. ⌜ now (file .exit) ≡ now (file .entry) ⌝ }
+{
+    match checks::check_withdraw(file, board, holder) {
+        Check::Passed(_) => {
+            checks::withdraw_work(board, holder);
+            Answer::Accepted
+        }
+        Check::Refused(n) => Answer::Refused(n),
+    }
+}

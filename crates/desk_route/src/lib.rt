@@ -1,0 +1,51 @@
+// The public call that grants a light: the checks of it, and the search of a route that passed them all.
+use answers::Granted;
+use search::Found;
+use site::Check;
+ghost use mathlib.Core.Path.{_≡_};
+ghost use Prim.Native.Nat.{_≤_};
+ghost use lib.ListN.{length, replicate};
+ghost use Rattle.meaning.specs.Calls.{listed, route, meant, lends, over};
+ghost use Rattle.meaning.specs.Plan.{node};
+ghost use Rattle.answers.specs.Answers.{grantedOf};
+
+// Sets the first `needed` words to 0.
+fn zero_words(work: &mut [u32], needed: usize)
+    requires { ⌜ needed ≤ length (now work) ⌝ }
+    ensures { λ _. ⌜ now (work .exit) ≡ over (replicate needed 0) (now (work .entry)) ⌝ }
+{
+    let mut word = 0;
+    while word < needed {
+        work[word] = 0;
+        word += 1;
+    }
+}
+
+// Writes the light of the traced plan with the least arrival, and leaves the working words that a search needs zero.
+pub fn route(
+    file: &[u8],
+    board: &[u8],
+    tug: u8,
+    start: u16,
+    tick: u16,
+    goal: u16,
+    out: &mut [u8],
+    work: &mut [u32],
+) -> Granted
+    ensures { λ r. ⌜ r ≡ grantedOf (meant (now (file .entry)) (lends (now (board .entry)) (now (out .entry)) (now (work .entry))) (listed (route tug (node start tick) goal))) ⌝ }
+    ensures { λ _. ⌜ now (out .exit) ≡ meant (now (file .entry)) (lends (now (board .entry)) (now (out .entry)) (now (work .entry))) (listed (route tug (node start tick) goal)) .lent .out ⌝ }
+    ensures { λ _. ⌜ now (work .exit) ≡ meant (now (file .entry)) (lends (now (board .entry)) (now (out .entry)) (now (work .entry))) (listed (route tug (node start tick) goal)) .lent .words ⌝ }
+    ensures { λ _. ⌜ now (file .exit) ≡ now (file .entry) ⌝ }
+    ensures { λ _. ⌜ now (board .exit) ≡ now (board .entry) ⌝ }
+{
+    match checks_route::check_route(file, board, tug, start, tick, goal, out.len(), work.len()) {
+        Check::Passed(l) => {
+            zero_words(work, l.states * (l.horizon + 1));
+            match search::find(file, l, board, tug, start, tick, goal, out) {
+                Found::Route(len, arrival) => Granted::Granted(len, arrival),
+                Found::Nothing => Granted::Refused(18),
+            }
+        }
+        Check::Refused(n) => Granted::Refused(n),
+    }
+}

@@ -1,0 +1,17 @@
+-- `light_read::u16_at` meets its contract.
+-- Assumes nothing.
+use native.Mathlib.Omega.{arith}
+use Rattle.light_read.proofs.u16_at.Statement.{statement}
+use Rattle.light_read.proofs.u16_at.Tie as tie
+
+number-at-requires : tie.Need-number-at-requires
+number-at-requires c κs = omega arith
+
+cast-result : tie.Need-cast-result
+cast-result c = omega arith
+
+returns : tie.Need-returns
+returns c = c .number-at .ensures .0
+
+pub u16-at-spec : {M : Type 1} → statement M
+u16-at-spec = tie.close (tie.spec number-at-requires cast-result returns)

@@ -1,0 +1,163 @@
+// Reading a light: its layout, its head and its steps. The fields are read through the crate `fields`.
+ghost use mathlib.Core.Path.{_≡_};
+ghost use mathlib.Core.Bool.{true, false, _&&_};
+ghost use Prim.Native.Nat.{_+_, _≤_};
+ghost use lib.Dec.{eqb};
+ghost use lib.ListN.{length};
+ghost use Rattle.meaning.specs.Limits.{fieldHeader, lightTag, lightHeadSize};
+ghost use Rattle.meaning.specs.Basics.{u16At};
+ghost use Rattle.meaning.specs.Light.{isLight, lightOf};
+ghost use Rattle.light_read.specs.Steps.{headOf, laidFrom, stepIn, stepAt};
+use fields::Header;
+use fields::Item;
+
+const LIGHT_LIMIT: usize = 5016;
+
+const LIGHT_TAG: u8 = 16;
+
+const WAIT_TAG: u8 = 17;
+
+const MOVE_TAG: u8 = 18;
+
+const HEAD_SIZE: usize = 13;
+
+const STEP_SIZE: usize = 2;
+
+// Where an accepted light's first step starts.
+pub const FIRST_STEP: usize = 16;
+
+// The numbers of a light's head.
+pub struct Head {
+    pub edition: u32,
+    pub tug: u8,
+    pub start: u16,
+    pub tick: u16,
+    pub goal: u16,
+    pub arrival: u16,
+}
+
+// What stands at a place: a wait's span or a motion's number, each with where the next step starts; the end; or no step.
+pub enum Step {
+    Wait(u16, usize),
+    Move(u16, usize),
+    End,
+    Wrong,
+}
+
+// The two bytes at `at` as a number.
+fn u16_at(s: &[u8], at: usize) -> u16
+    requires { ⌜ at + 2 ≤ length (now s) ⌝ }
+    ensures { λ r. ⌜ r ≡ u16At (now (s .entry)) at ⌝ }
+{
+    fields::number_at(s, at) as u16
+}
+
+// The step whose field has this header.
+fn step_in(s: &[u8], h: Header) -> Step
+    requires { ⌜ h .start + h .len ≤ length (now s) ⌝ }
+    ensures { λ r. ⌜ r ≡ stepIn (h .tag) (h .len) (u16At (now (s .entry)) (h .start)) (h .next) ⌝ }
+{
+    if h.len != STEP_SIZE {
+        return Step::Wrong;
+    }
+    let n = u16_at(s, h.start);
+    if h.tag == MOVE_TAG {
+        return Step::Move(n, h.next);
+    }
+    if h.tag != WAIT_TAG {
+        return Step::Wrong;
+    }
+    if n == 0 {
+        return Step::Wrong;
+    }
+    Step::Wait(n, h.next)
+}
+
+// The step at `at`.
+pub fn step_at(s: &[u8], at: usize) -> Step
+    ensures { λ r. ⌜ r ≡ stepAt (now (s .entry)) at ⌝ }
+{
+    match fields::read_item(s, at) {
+        Item::Field(h) => step_in(s, h),
+        Item::Cut => Step::Wrong,
+        Item::End => Step::End,
+    }
+}
+
+// The reader after a wait: a motion or the end comes next.
+pub fn after_wait(s: &[u8], at: usize) -> bool
+    ensures { λ r. ⌜ r ≡ laidFrom false (now (s .entry)) at ⌝ }
+{
+    match step_at(s, at) {
+        Step::Move(_, next) => after_motion(s, next),
+        Step::Wait(_, _) => false,
+        Step::End => true,
+        Step::Wrong => false,
+    }
+}
+
+// The reader after a motion, and at the first step: either or the end comes next.
+pub fn after_motion(s: &[u8], at: usize) -> bool
+    ensures { λ r. ⌜ r ≡ laidFrom true (now (s .entry)) at ⌝ }
+{
+    match step_at(s, at) {
+        Step::Move(_, next) => after_motion(s, next),
+        Step::Wait(_, next) => after_wait(s, next),
+        Step::End => true,
+        Step::Wrong => false,
+    }
+}
+
+// The field with this header is a light's head, and steps in their layout follow it.
+fn head_then_steps(s: &[u8], h: Header) -> bool
+    ensures { λ r. ⌜ r ≡ (eqb (h .tag) lightTag && eqb (h .len) lightHeadSize && laidFrom true (now (s .entry)) (h .next)) ⌝ }
+{
+    if h.tag != LIGHT_TAG {
+        return false;
+    }
+    if h.len != HEAD_SIZE {
+        return false;
+    }
+    after_motion(s, h.next)
+}
+
+// The bytes are a light.
+pub fn is_light(s: &[u8]) -> bool
+    ensures { λ r. ⌜ r ≡ isLight (now (s .entry)) ⌝ }
+{
+    if s.len() > LIGHT_LIMIT {
+        return false;
+    }
+    match fields::read_item(s, 0) {
+        Item::Field(h) => head_then_steps(s, h),
+        Item::Cut => false,
+        Item::End => false,
+    }
+}
+
+// Where the value of an accepted light's head starts.
+fn head_value(s: &[u8]) -> usize
+    requires { ⌜ isLight (now s) ≡ true ⌝ }
+    ensures { λ r. ⌜ (r ≡ fieldHeader) × (fieldHeader + lightHeadSize ≤ length (now (s .entry))) ⌝ }
+{
+    let h = fields::header_at(s, 0);
+    h.start
+}
+
+// The numbers of an accepted light's head.
+pub fn read_head(s: &[u8]) -> Head
+    requires { ⌜ isLight (now s) ≡ true ⌝ }
+    ensures { λ r. ⌜ r ≡ headOf (lightOf (now (s .entry))) ⌝ }
+{
+    let at = head_value(s);
+    let high = u16_at(s, at) as u32;
+    let low = u16_at(s, at + 2) as u32;
+    Head {
+        edition: high * 65536 + low,
+        tug: s[at + 4],
+        start: u16_at(s, at + 5),
+        tick: u16_at(s, at + 7),
+        goal: u16_at(s, at + 9),
+        arrival: u16_at(s, at + 11),
+    }
+}

@@ -1,0 +1,57 @@
+-- Laws of bytes placed in an area: from the back to the front, as a light is traced.
+-- Assumes nothing.
+use Prim.Native.Nat.{ℕ, _+_, _/_, _%_, _≤_}
+use native.Mathlib.Omega.{arith}
+use native.Mathlib.Nat.{add-zero, zero-add}
+use mathlib.Core.Path.{_≡_, refl, sym, ap, _∙_}
+use mathlib.Core.List.{List, [], _∷_, _++_, map, append-assoc, append-nil}
+use lib.ListN.{length, take, drop, length-append, take-append-drop}
+use lib.Seq.{length-take-le, take-append-le, take-take, drop-at}
+use Rattle.meaning.specs.Limits.{stepSize}
+use Rattle.meaning.specs.Basics.{put16}
+use Rattle.meaning.specs.Fields.{fieldBytes, fieldsBytes}
+use Rattle.meaning.specs.Light.{Light, lightHead, stepField, encode}
+use Rattle.meaning.specs.Calls.{over}
+use Rattle.light_write.specs.Areas.{tagged, placed}
+
+-- a step's field, from its bytes
+pub step-bytes : (at tag n high low : ℕ) (area : List ℕ) → high ≡ n / 256 % 256 → low ≡ n % 256
+    → placed at (tag ∷ 0 ∷ stepSize ∷ high ∷ low ∷ []) area ≡ placed at (fieldBytes (tagged tag (put16 n))) area
+step-bytes at tag n high low area h l = rw (h, l)
+
+-- nothing placed changes nothing
+pub placed-none : (at : ℕ) (area : List ℕ) → placed at [] area ≡ area
+placed-none at area = rw (add-zero at, append-nil (take at area), take-append-drop at area)
+
+-- bytes placed just before others
+pub placed-before : (at next : ℕ) (new later area : List ℕ) → next ≡ at + length new → next + length later ≤ length area
+    → placed at new (placed next later area) ≡ placed at (new ++ later) area
+placed-before at next new later area e h =
+    let rest = drop (next + length later) area in
+    let back : at + length new ≡ next = sym e in
+    let place : next + length later ≡ at + length (new ++ later) = omega (arith, length-append new later) in
+    let front : take at (placed next later area) ≡ take at area =
+    ap (take at) (append-assoc (take next area) later rest)
+    ∙ take-append-le at (take next area) (later ++ rest) (omega (arith, length-take-le next area (omega arith)))
+    ∙ take-take at next area (omega arith) in
+    let behind : drop (at + length new) (placed next later area) ≡ later ++ rest =
+    ap (λ (k : ℕ). drop k (placed next later area)) back
+    ∙ ap (drop next) (append-assoc (take next area) later rest)
+    ∙ drop-at (take next area) (later ++ rest) next (length-take-le next area (omega arith)) in
+    rw (front, behind)
+    (sym (append-assoc (take at area ++ new) later rest)
+    ∙ ap (λ (p : List ℕ). p ++ rest) (append-assoc (take at area) new later)
+    ∙ ap (λ (k : ℕ). take at area ++ (new ++ later) ++ drop k area) place)
+
+-- at the front
+pub placed-front : (new area : List ℕ) → placed 0 new area ≡ over new area
+placed-front new area = ap (λ (k : ℕ). new ++ drop k area) (zero-add (length new))
+
+-- a head written after its steps makes the light
+pub head-last : (l : Light) (area : List ℕ) → 16 + length (fieldsBytes (map stepField (l .steps))) ≤ length area
+    → over (fieldBytes (lightHead l)) (placed 16 (fieldsBytes (map stepField (l .steps))) area) ≡ over (encode l) area
+unfolding encode
+head-last l area h =
+    let head = fieldBytes (lightHead l) in
+    let steps = fieldsBytes (map stepField (l .steps)) in
+    placed-before 0 16 head steps area refl h ∙ placed-front (head ++ steps) area

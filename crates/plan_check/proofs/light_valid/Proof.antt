@@ -1,0 +1,74 @@
+-- `plan_check::light_valid` meets its contract: the light's steps lead from its start to where it says.
+-- Assumes nothing.
+use mathlib.Core.Path.{sym, ap, _∙_}
+use mathlib.Core.Option.{none}
+use Rattle.meaning.specs.Site.{siteOf}
+use Rattle.meaning.specs.Board.{free}
+use Rattle.light_read.proofs.HeadLaws.{accepted}
+use Rattle.plan_check.specs.Walks.{wentCase}
+use Rattle.plan_check.proofs.LightLaws.{start-known, valid-off, valid-walk}
+use borrow.Author.Needs.{needs}
+use Rattle.plan_check.proofs.light_valid.Statement.{statement}
+use Rattle.plan_check.proofs.light_valid.Tie as tie
+
+read-head-requires : tie.Need-read-head-requires
+read-head-requires c κs = search needs
+
+start-of-requires : tie.Need-start-of-requires
+start-of-requires c κs = search needs
+
+start-free-requires : tie.Need-start-free-requires
+start-free-requires c κs = search needs
+
+walk-steps-requires : tie.Need-walk-steps-requires
+walk-steps-requires c κs =
+    let a = c .before .before .before .before .before .before .before .args in
+    let p = c .before .before .before .before .before .before .before .pre in
+    ((p .0, p .1, start-known (a .file .now) _ (c .before .before .start-of .result) (sym (c .before .start-free .ensures) ∙ c .if1 .taken)), accepted (a .light .now) (p .2) .laid)
+
+enum-known-b : tie.Need-enum-known-b
+enum-known-b c = search needs
+
+at-goal-requires : tie.Need-at-goal-requires
+at-goal-requires c κs = search needs
+
+enum-told : tie.Need-enum-told
+enum-told c = search needs
+
+returns : tie.Need-returns
+returns c =
+    let a = c .before .before .before .before .before .before .before .before .before .before .before .before .args in
+    let s = siteOf (a .file .now) in
+    let starts = sym (c .before .before .before .before .before .before .start-free .ensures) ∙ c .before .before .before .before .before .if1 .taken in
+    c .at-goal .ensures
+    ∙ valid-walk s (free s (a .board .now)) (a .light .now) _ (c .before .before .before .before .before .before .before .before .read-head .ensures) _ (c .before .before .before .before .before .before .before .start-of .ensures) (c .before .before .before .before .before .before .before .before .before .before .before .before .pre .2) starts _
+    (sym (ap wentCase (c .before .before .b .given .1)) ∙ c .before .before .before .before .walk-steps .ensures)
+
+returns-2 : tie.Need-returns-2
+returns-2 c =
+    let a = c .before .before .before .before .before .before .before .before .before .before .args in
+    let s = siteOf (a .file .now) in
+    let starts = sym (c .before .before .before .before .start-free .ensures) ∙ c .before .before .before .if1 .taken in
+    valid-walk s (free s (a .board .now)) (a .light .now) _ (c .before .before .before .before .before .before .read-head .ensures) _ (c .before .before .before .before .before .start-of .ensures) (c .before .before .before .before .before .before .before .before .before .before .pre .2) starts none
+    (sym (ap wentCase (c .enum-told .given .1)) ∙ c .before .before .walk-steps .ensures)
+
+returns-3 : tie.Need-returns-3
+returns-3 c =
+    let a = c .before .before .before .before .before .before .before .args in
+    let s = siteOf (a .file .now) in
+    sym (valid-off s (free s (a .board .now)) (a .light .now) _ (c .before .before .before .read-head .ensures) _ (c .before .before .start-of .ensures) (sym (c .before .start-free .ensures) ∙ c .if1 .left))
+
+pub light-valid-spec : {M : Type 1} → statement M
+light-valid-spec =
+    tie.close
+    (tie.spec
+    read-head-requires
+    start-of-requires
+    start-free-requires
+    walk-steps-requires
+    enum-known-b
+    at-goal-requires
+    enum-told
+    returns
+    returns-2
+    returns-3)

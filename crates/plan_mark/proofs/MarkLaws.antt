@@ -1,0 +1,180 @@
+-- Marking a plan's pairs from place to place: what is left to mark leaves the board as marking all does.
+-- Assumes nothing.
+use Prim.Native.Nat.{ℕ, suc, _+_, _*_, _-_, _≤_, _<_}
+use native.Mathlib.Omega.{arith}
+use mathlib.Core.Path.{_≡_, refl, sym, ap, ap₂, _∙_, subst}
+use mathlib.Core.Bool.{true, false≢true}
+use mathlib.Core.List.{List, [], _∷_}
+use mathlib.Core.Option.{Option, none, some}
+use lib.ListN.{length}
+use borrow.Author.Tests.{leb-true, ltb-true}
+use Rattle.meaning.specs.Site.{Site, Sweep, siteOf, motionAt, cellOf}
+use Rattle.meaning.specs.Board.{Free, Pair, run, runTo, mark}
+use Rattle.meaning.specs.Plan as Plan
+use Rattle.meaning.specs.Plan.{wait, move, allowed, after, walk, startFree, planEnd, sweptPairs, stepPairs, walkPairs, planPairs}
+use Rattle.meaning.specs.Light.{isLight, lightOf, startOf}
+use Rattle.meaning.specs.Calls.{isAt, lightValid, lightPairs}
+use Rattle.meaning.proofs.BasicsLaws.{every-at, when-test, when-value}
+use Rattle.meaning.proofs.BoardLaws.{mark-append, length-mark}
+use Rattle.site_sweeps.specs.Places.{sweepAt, sweepsAt, SweepIs}
+use Rattle.site_sweeps.specs.declared.Sweep as ReadSweep
+use Rattle.site_sweeps.proofs.Laws.{sweeps-none, sweeps-next}
+use Rattle.light_read.specs.Steps.{headOf, laidFrom, stepsFrom}
+use Rattle.light_read.specs.declared.Head.{Head}
+use Rattle.light_read.proofs.HeadLaws.{accepted}
+use Rattle.light_read.proofs.StepLaws.{On}
+use Rattle.site.specs.declared.Sizes.{Sizes}
+use Rattle.plan_steps.specs.declared.Node.{Node}
+use Rattle.plan_steps.specs.Ready.{Ready}
+use Rattle.plan_steps.specs.Nodes.{nodeOf, Here}
+use Rattle.plan_check.specs.Walks.{startIn}
+use Rattle.plan_check.proofs.LightLaws.{start-known}
+use Rattle.plan_mark.specs.InTime.{InTime}
+
+-- a board of the same length serves as well
+pub keep : {file : List ℕ} {m n : ℕ} {l : Sizes} → n ≡ m → Ready file m l → Ready file n l
+keep e r = record { read = r .read; sizes = r .sizes; board = e ∙ r .board }
+
+-- ---- a motion's sweeps from the number i on
+
+module _ (site : Site) (h : ℕ) (file : List ℕ) (at n t : ℕ) where
+  pub swept-all : (board : List ℕ) → mark site h (sweptPairs (sweepsAt file (at + 3 * 0) (n - 0)) t) board ≡ mark site h (sweptPairs (sweepsAt file at n) t) board
+  swept-all board =
+      let place : at + 3 * 0 ≡ at = omega arith in
+      let left : n - 0 ≡ n = omega arith in
+      ap₂ (λ (x y : ℕ). mark site h (sweptPairs (sweepsAt file x y) t) board) place left
+
+  pub swept-next : (i : ℕ) (w : ReadSweep.Sweep) (board new : List ℕ) → i < n → at + 3 * n ≤ length file → SweepIs (sweepAt file (at + 3 * i)) w
+      → new ≡ mark site h (runTo (w .cell) (t + w .first) (t + w .last)) board
+      → mark site h (sweptPairs (sweepsAt file (at + 3 * i) (n - i)) t) board ≡ mark site h (sweptPairs (sweepsAt file (at + 3 * (i + 1)) (n - (i + 1))) t) new
+  swept-next i w board new lt inside u e =
+      let v = sweepAt file (at + 3 * i) in
+      let place : at + 3 * i + 3 ≡ at + 3 * (i + 1) = omega arith in
+      let left : n - i - 1 ≡ n - (i + 1) = omega arith in
+      let same : runTo (v .cell) (t + v .first) (t + v .last) ≡ runTo (w .cell) (t + w .first) (t + w .last) =
+      λ j. runTo (sym (u .cell) j) (t + sym (u .first) j) (t + sym (u .last) j) in
+      let ps = runTo (v .cell) (t + v .first) (t + v .last) in
+      let ws = sweepsAt file (at + 3 * i + 3) (n - i - 1) in
+      ap (λ (x : List Sweep). mark site h (sweptPairs x t) board) (sweeps-next file (at + 3 * i) (n - i) (omega arith) (omega arith))
+      ∙ mark-append site h ps (sweptPairs ws t) board
+      ∙ ap (mark site h (sweptPairs ws t)) (ap (λ (x : List Pair). mark site h x board) same ∙ sym e)
+      ∙ ap₂ (λ (x y : ℕ). mark site h (sweptPairs (sweepsAt file x y) t) new) place left
+
+  pub swept-end : (i : ℕ) (board : List ℕ) → n ≤ i → mark site h (sweptPairs (sweepsAt file (at + 3 * i) (n - i)) t) board ≡ board
+  swept-end i board le = ap (λ (x : List Sweep). mark site h (sweptPairs x t) board) (sweeps-none file (at + 3 * i) (n - i) (omega arith))
+
+-- ---- a light's steps from a place on
+
+pub record Marking (file : List ℕ) (h : ℕ) (light : List ℕ) (first : ℕ) (start : Node) (old : List ℕ) (at : ℕ) (here : Node) (board : List ℕ) : Type 0 where
+  pub room : length board ≡ length old
+  pub laid : laidFrom true light at ≡ true
+  pub known : Here file here
+  pub in-time : InTime (siteOf file) (stepsFrom light at) (nodeOf here)
+  pub rest : mark (siteOf file) h (walkPairs (siteOf file) (stepsFrom light at) (nodeOf here)) board
+      ≡ mark (siteOf file) h (walkPairs (siteOf file) (stepsFrom light first) (nodeOf start)) old
+
+module _ {file : List ℕ} {h : ℕ} {light : List ℕ} {first : ℕ} {start : Node} {old : List ℕ} {at : ℕ} {here : Node} {board : List ℕ}
+    (w : Marking file h light first start old at here board) where
+  -- what is known of the step at the place
+  pub wait-in-time : {later n : ℕ} → On light at later (wait n) → InTime (siteOf file) (wait n ∷ stepsFrom light later) (nodeOf here)
+  wait-in-time o = subst (λ (ps : List Plan.Step). InTime (siteOf file) ps (nodeOf here)) (o .steps) (w .in-time)
+
+  pub move-in-time : {later k : ℕ} → On light at later (move k) → InTime (siteOf file) (move k ∷ stepsFrom light later) (nodeOf here)
+  move-in-time o = subst (λ (ps : List Plan.Step). InTime (siteOf file) ps (nodeOf here)) (o .steps) (w .in-time)
+
+  marks : {later : ℕ} {p : Plan.Step} → On light at later p → (new : List ℕ) → new ≡ mark (siteOf file) h (stepPairs (siteOf file) p (nodeOf here)) board
+      → (b : Node) → after (siteOf file) p (nodeOf here) ≡ nodeOf b → Here file b → InTime (siteOf file) (stepsFrom light later) (after (siteOf file) p (nodeOf here))
+      → Marking file h light first start old later b new
+  marks {later} {p} o new e b goes k t =
+      let site = siteOf file in
+      let ps = stepPairs site p (nodeOf here) in
+      let qs = walkPairs site (stepsFrom light later) (after site p (nodeOf here)) in
+      record {
+        room = ap length e ∙ length-mark site h ps board ∙ w .room;
+        laid = o .laid (w .laid);
+        known = k;
+        in-time = subst (InTime site (stepsFrom light later)) goes t;
+        rest =
+            sym (ap (λ (xs : List Plan.Step). mark site h (walkPairs site xs (nodeOf here)) board) (o .steps)
+            ∙ mark-append site h ps qs board
+            ∙ ap₂ (λ (a : Plan.Node) (x : List ℕ). mark site h (walkPairs site (stepsFrom light later) a) x) goes (sym e))
+            ∙ w .rest;
+      }
+
+  pub marks-wait : {later n : ℕ} → On light at later (wait n) → (new : List ℕ)
+      → new ≡ mark (siteOf file) h (stepPairs (siteOf file) (wait n) (nodeOf here)) board
+      → (b : Node) → (b .state ≡ here .state) × (b .tick .0 ≡ here .tick .0 + n) → Marking file h light first start old later b new
+  marks-wait o new e b (s, t) =
+      let (in-time, more) = wait-in-time o in
+      let k = w .known .state in
+      marks o new e b (λ i. record { state = sym s i; tick = sym t i }) (record { state = omega arith; tick = omega arith }) more
+
+  pub marks-move : {later k : ℕ} → On light at later (move k) → (new : List ℕ)
+      → new ≡ mark (siteOf file) h (stepPairs (siteOf file) (move k) (nodeOf here)) board
+      → (b : Node) → b .state ≡ motionAt (siteOf file) k .to → b .tick .0 ≡ here .tick .0 + motionAt (siteOf file) k .span
+      → motionAt (siteOf file) k .to < length (siteOf file .states) → Marking file h light first start old later b new
+  marks-move o new e b s t below =
+      let (named, in-time, more) = move-in-time o in
+      marks o new e b (λ i. record { state = sym s i; tick = sym t i }) (record { state = omega arith; tick = omega arith }) more
+
+  pub marks-end : stepsFrom light at ≡ [] → board ≡ mark (siteOf file) h (walkPairs (siteOf file) (stepsFrom light first) (nodeOf start)) old
+  marks-end e = sym (ap (λ (ps : List Plan.Step). mark (siteOf file) h (walkPairs (siteOf file) ps (nodeOf here)) board) e) ∙ w .rest
+
+-- ---- the steps of a valid plan end by the horizon
+
+walk-in-time : (site : Site) (f : Free) (ps : List Plan.Step) (a b : Plan.Node) → walk site f ps a ≡ some b → InTime site ps a
+unfolding walk allowed
+walk-in-time site f [] a b h = tt
+walk-in-time site f (wait n ∷ ps) a b h =
+    let rest = walk site f ps (after site (wait n) a) in
+    let ok : allowed site f (wait n) a ≡ true = when-test _ rest h in
+    (leb-true _ _ (every-at _ ok 3), walk-in-time site f ps (after site (wait n) a) b (when-value (allowed site f (wait n) a) rest h))
+walk-in-time site f (move k ∷ ps) a b h =
+    let rest = walk site f ps (after site (move k) a) in
+    let ok : allowed site f (move k) a ≡ true = when-test _ rest h in
+    (ltb-true _ _ (every-at _ ok 0), leb-true _ _ (every-at _ ok 3), walk-in-time site f ps (after site (move k) a) b (when-value (allowed site f (move k) a) rest h))
+
+valid-end : (s t : ℕ) (o : Option Plan.Node) → isAt s t o ≡ true → (a : Plan.Node) × (o ≡ some a)
+valid-end s t none h = absurd (false≢true h)
+valid-end s t (some a) h = (a, refl)
+
+-- what a valid light's head gives to the marking
+module _ (file : List ℕ) (f : Free) (light : List ℕ) (lit : isLight light ≡ true) (valid : lightValid (siteOf file) f (lightOf light) ≡ true)
+    (hd : Head) (e : hd ≡ headOf (lightOf light)) (start : Node) (s : nodeOf start ≡ startIn hd) where
+  begins : nodeOf start ≡ startOf (lightOf light)
+  begins = s ∙ ap startIn e
+
+  pub valid-start : Here file start
+  unfolding lightValid planEnd
+  valid-start =
+      let l = lightOf light in
+      let (b, ends) = valid-end (l .goal) (l .arrival) (planEnd (siteOf file) f (startOf l) (l .steps)) valid in
+      let ok = when-test _ (walk (siteOf file) f (l .steps) (startOf l)) ends in
+      start-known file f start (ap (startFree (siteOf file) f) begins ∙ ok)
+
+  pub valid-steps : InTime (siteOf file) (stepsFrom light 16) (nodeOf start)
+  unfolding lightValid planEnd
+  valid-steps =
+      let l = lightOf light in
+      let site = siteOf file in
+      let (b, ends) = valid-end (l .goal) (l .arrival) (planEnd site f (startOf l) (l .steps)) valid in
+      let led = when-value (startFree site f (startOf l)) (walk site f (l .steps) (startOf l)) ends in
+      subst (InTime site (stepsFrom light 16)) (sym begins)
+      (subst (λ (ps : List Plan.Step). InTime site ps (startOf l)) (sym (accepted light lit .steps)) (walk-in-time site f (l .steps) (startOf l) b led))
+
+-- the start's pair, and then the steps'
+pub light-marks : (site : Site) (light : List ℕ) (hd : Head) (start : Node) (old mid new : List ℕ) → isLight light ≡ true → hd ≡ headOf (lightOf light)
+    → nodeOf start ≡ startIn hd → mid ≡ mark site (hd .tug) (stepPairs site (wait 0) (nodeOf start)) old
+    → new ≡ mark site (hd .tug) (walkPairs site (stepsFrom light 16) (nodeOf start)) mid
+    → new ≡ mark site (lightOf light .tug) (lightPairs site (lightOf light)) old
+unfolding planPairs
+light-marks site light hd start old mid new lit e s p q =
+    let l = lightOf light in
+    let begins : nodeOf start ≡ startOf l = s ∙ ap startIn e in
+    let one : suc (l .tick + 0) - l .tick ≡ 1 = omega arith in
+    let pair : stepPairs site (wait 0) (startOf l) ≡ record { cell = cellOf site (l .start); tick = l .tick } ∷ [] = ap (run (cellOf site (l .start)) (l .tick)) one in
+    let tug : hd .tug ≡ l .tug = ap (λ (x : Head). x .tug) e in
+    q
+    ∙ ap (mark site (hd .tug) (walkPairs site (stepsFrom light 16) (nodeOf start))) p
+    ∙ (λ i. mark site (tug i) (walkPairs site (accepted light lit .steps i) (begins i)) (mark site (tug i) (stepPairs site (wait 0) (begins i)) old))
+    ∙ ap (λ (ps : List Pair). mark site (l .tug) (walkPairs site (l .steps) (startOf l)) (mark site (l .tug) ps old)) pair

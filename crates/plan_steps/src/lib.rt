@@ -1,0 +1,142 @@
+// Steps of a plan: is a wait or a motion allowed on the board, and where does it lead.
+use site::Motion;
+use site::Sizes;
+use site_sweeps::Sweep;
+use time::Span;
+use time::Tick;
+ghost use mathlib.Core.Path.{_≡_};
+ghost use Prim.Native.Nat.{ℕ, _+_, _<_, _≤_};
+ghost use lib.Dec.{leb};
+ghost use lib.ListN.{length};
+ghost use Rattle.meaning.specs.Site.{siteOf, motionAt};
+ghost use Rattle.meaning.specs.Board.{free};
+ghost use Rattle.meaning.specs.Plan.{freeFromTo, sweepsFree, wait, move, allowed};
+ghost use Rattle.site_sweeps.specs.Places.{sweepsAt};
+ghost use Rattle.site.specs.Motions.{MotionIs};
+ghost use Rattle.plan_steps.specs.Ready.{Ready, Sweeps, Swept};
+ghost use Rattle.plan_steps.specs.Nodes.{nodeOf, Here};
+
+// A state and a tick.
+pub struct Node {
+    pub state: usize,
+    pub tick: Tick,
+}
+
+// A moment as the number that names a byte of the board.
+pub fn plain(t: Tick) -> usize
+    ensures { λ r. ⌜ r ≡ t .0 ⌝ }
+{
+    t.0 as usize
+}
+
+// The moment is not past the horizon.
+pub fn in_time(t: Tick, sizes: Sizes) -> bool
+    ensures { λ r. ⌜ r ≡ leb (t .0) (sizes .horizon) ⌝ }
+{
+    plain(t) <= sizes.horizon
+}
+
+// The sweep's cell is free while a motion that starts at `t` uses it.
+fn sweep_free(file: &[u8], board: &[u8], sizes: Sizes, w: Sweep, t: Tick) -> bool
+    requires { ⌜ Ready (now file) (length (now board)) sizes × Swept (now file) w (t .0) ⌝ }
+    ensures { λ r. ⌜ r ≡ freeFromTo (free (siteOf (now (file .entry))) (now (board .entry))) (w .cell) (t .0 + w .first) (t .0 + w .last) ⌝ }
+{
+    let first = time::after(t, Span(w.first as u32));
+    let last = time::after(t, Span(w.last as u32));
+    board::run_free(
+        board,
+        sizes.horizon,
+        w.cell as usize,
+        plain(first),
+        plain(last),
+    )
+}
+
+// Each swept cell of the motion is free while the motion uses it, where it starts at `t`.
+fn sweeps_free(file: &[u8], board: &[u8], sizes: Sizes, m: Motion, t: Tick) -> bool
+    requires { ⌜ Ready (now file) (length (now board)) sizes × Sweeps (now file) (m .first) (m .count) (m .span) ⌝ }
+    requires { ⌜ t .0 + m .span ≤ siteOf (now file) .horizon ⌝ }
+    ensures { λ r. ⌜ r ≡ sweepsFree (free (siteOf (now (file .entry))) (now (board .entry))) (sweepsAt (now (file .entry)) (m .first) (m .count)) (t .0) ⌝ }
+{
+    let place = m.first;
+    let count = m.count;
+    let mut i = 0;
+    while i < count {
+        if !sweep_free(
+            file,
+            board,
+            sizes,
+            site_sweeps::read_sweep(file, place, i),
+            t,
+        ) {
+            return false;
+        }
+        i += 1;
+    }
+    true
+}
+
+// A wait of `n` ticks at `a` is allowed.
+pub fn wait_allowed(file: &[u8], board: &[u8], sizes: Sizes, a: Node, n: Span) -> bool
+    requires { ⌜ Ready (now file) (length (now board)) sizes × Here (now file) a × (n .0 < 65536) ⌝ }
+    ensures { λ r. ⌜ r ≡ allowed (siteOf (now (file .entry))) (free (siteOf (now (file .entry))) (now (board .entry))) (wait (n .0)) (nodeOf a) ⌝ }
+{
+    if n.0 == 0 {
+        return false;
+    }
+    let state = a.state;
+    if site::state_speed(file, state) != 0 {
+        return false;
+    }
+    let last = time::after(a.tick, n);
+    if in_time(last, sizes) {
+        let cell = site::state_cell(file, state);
+        board::run_free(
+            board,
+            sizes.horizon,
+            cell as usize,
+            plain(a.tick),
+            plain(last),
+        )
+    } else {
+        false
+    }
+}
+
+// The motion `m`, whatever its number, is allowed at `a`.
+pub fn move_allowed(file: &[u8], board: &[u8], sizes: Sizes, m: Motion, a: Node) -> bool
+    requires { ⌜ Ready (now file) (length (now board)) sizes × Here (now file) a × Sweeps (now file) (m .first) (m .count) (m .span) ⌝ }
+    ensures { λ r. ⌜ ((k : ℕ) → k < length (siteOf (now (file .entry)) .motions) → MotionIs (now (file .entry)) (motionAt (siteOf (now (file .entry))) k) m → r ≡ allowed (siteOf (now (file .entry))) (free (siteOf (now (file .entry))) (now (board .entry))) (move k) (nodeOf a)) ⌝ }
+{
+    if m.from != a.state {
+        return false;
+    }
+    let end = time::after(a.tick, Span(m.span as u32));
+    if in_time(end, sizes) {
+        sweeps_free(file, board, sizes, m, a.tick)
+    } else {
+        false
+    }
+}
+
+// The node after a wait of `n` ticks at `a`.
+pub fn after_wait(a: Node, n: Span) -> Node
+    requires { ⌜ a .tick .0 + n .0 < 4294967296 ⌝ }
+    ensures { λ r. ⌜ (r .state ≡ a .state) × (r .tick .0 ≡ a .tick .0 + n .0) ⌝ }
+{
+    Node {
+        state: a.state,
+        tick: time::after(a.tick, n),
+    }
+}
+
+// The node after the motion `m`, which starts at `t`.
+pub fn after_move(m: Motion, t: Tick) -> Node
+    requires { ⌜ t .0 + m .span < 4294967296 ⌝ }
+    ensures { λ r. ⌜ (r .state ≡ m .to) × (r .tick .0 ≡ t .0 + m .span) ⌝ }
+{
+    Node {
+        state: m.to,
+        tick: time::after(t, Span(m.span as u32)),
+    }
+}

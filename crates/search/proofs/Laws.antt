@@ -1,0 +1,198 @@
+-- What the parts of the search give together: the sets, the plan, and its light.
+-- Assumes nothing.
+use Prim.Native.Nat.{ℕ, _+_, _*_, _-_, _≤_, _<_}
+use native.Mathlib.Omega.{arith}
+use mathlib.Core.Path.{_≡_, sym, ap, _∙_}
+use mathlib.Core.Bool.{cond}
+use mathlib.Core.Option.{Option, none, some}
+use mathlib.Core.List.{List}
+use lib.Dec.{leb}
+use lib.ListN.{length}
+use Rattle.meaning.specs.Site.{Site, siteOf}
+use Rattle.meaning.specs.WellFormed.{WellFormed}
+use Rattle.meaning.specs.Board.{Free, free, edition}
+use Rattle.meaning.specs.Reach.{Route}
+use Rattle.meaning.specs.Light.{Light, encode}
+use Rattle.meaning.specs.Calls.{lightRoom, over, bytesView, grantedLight}
+use Rattle.meaning.proofs.LightLaws.{length-encode}
+use Rattle.meaning.proofs.TraceLaws.{found-steps}
+use Rattle.meaning.specs.Plan.{node}
+use Rattle.site.specs.declared.Sizes.{Sizes}
+use Rattle.search_free.specs.Frees.{rowsFree}
+use Rattle.search_step.specs.Arrays.{cellAt, States, Motions}
+use Rattle.search_step.specs.Sets.{Closed, Explored}
+use Rattle.search_reach.specs.Decoded.{Sweeps, Starts, ReachedRows}
+use Rattle.search_back.specs.Words.{arrivalIn, Sets}
+use Rattle.search_back.proofs.SetsLaws.{sets-right}
+use Rattle.light_write.specs.Codes.{stepsIn}
+use Rattle.light_write.proofs.CodeLaws.{length-steps}
+use Rattle.search_trace.specs.Turns.{Search, Found}
+use Rattle.search_trace.proofs.FoundLaws.{routeAfter, route-there, route-nowhere, arrival-found}
+use Rattle.search_site.specs.Decodes.{StatesHeld, MotionsHeld}
+use Rattle.search_site.proofs.Uses.{well, states-fit, motions-fit, sweeps-fit, decoded}
+use Rattle.search.specs.declared.Plan.the-variants.{Steps, Missing}
+use Rattle.search.specs.declared.Found.the-variants as Answer
+use Rattle.search.specs.Finds.{Asked, routeOn, lightOn, Planned, foundOf, outOf}
+
+-- the numbers that keep each index of the search in range
+pub record Ranges (l : Sizes) (start tick goal : ℕ) : Type 0 where
+  pub short : l .horizon ≤ 1000
+  pub in-time : tick ≤ l .horizon
+  pub start-below : start < l .states
+  pub goal-below : goal < l .states
+  pub states-few : l .states ≤ 256
+  pub motions-few : l .motions ≤ 2000
+
+-- the arrays and rows are the sets of the search on the board
+abbrev pub SetsOn : List ℕ → List ℕ → Sizes → ℕ → ℕ → List ℕ → List ℕ → List ℕ → List ℕ → List ℕ → Type 0
+SetsOn file board l start tick st mv fr al re =
+    Sets (siteOf file) (free (siteOf file) board) (node start tick) (l .states) (l .motions) st mv file fr al re
+
+module _ (file board : List ℕ) (l : Sizes) (start tick goal : ℕ) (q : Asked file l (length board) start tick goal) where
+  abbrev site : Site
+  site = siteOf file
+
+  abbrev f : Free
+  f = free site board
+
+  site-well : WellFormed site
+  site-well = well file (q .read)
+
+  -- ---- what the layout says
+
+  pub same-states : l .states ≡ length (site .states)
+  same-states = ap (λ (k : Sizes). k .states) (q .says)
+
+  same-motions : l .motions ≡ length (site .motions)
+  same-motions = ap (λ (k : Sizes). k .motions) (q .says)
+
+  same-horizon : site .horizon ≡ l .horizon
+  same-horizon = sym (ap (λ (k : Sizes). k .horizon) (q .says))
+
+  same-cells : site .cells ≡ l .cells
+  same-cells = sym (ap (λ (k : Sizes). k .cells) (q .says))
+
+  pub ranges : Ranges l start tick goal
+  ranges =
+      let w = site-well in
+      let h = same-horizon in
+      let n = same-states in
+      let k = same-motions in
+      record {
+        short = omega (arith, w .horizon-range);
+        in-time = omega (arith, q .in-time);
+        start-below = omega (arith, q .start-known);
+        goal-below = omega (arith, q .goal-known);
+        states-few = omega (arith, w .states-range);
+        motions-few = omega (arith, w .motions-range);
+      }
+
+  pub board-fits : (l .cells ≤ 255) × ((l .horizon ≤ 1000) × (4 + l .cells * (l .horizon + 1) ≤ length board))
+  board-fits =
+      let size : length board ≡ 4 + l .cells * (l .horizon + 1) =
+      q .sized ∙ ap (λ (c : ℕ). 4 + c * (site .horizon + 1)) same-cells ∙ ap (λ (h : ℕ). 4 + l .cells * (h + 1)) same-horizon in
+      (omega (arith, same-cells, site-well .cells-range), (ranges .short, omega arith))
+
+  -- ---- what the parts leave
+
+  pub states-in : (st : List ℕ) → StatesHeld file st → 512 ≤ length st → States (l .states) st
+  states-in st held = states-fit file (q .read) st held (l .states) same-states
+
+  pub motions-in : (mv : List ℕ) → MotionsHeld file mv → 10000 ≤ length mv → Motions (l .motions) mv
+  motions-in mv held = motions-fit file (q .read) mv held (l .motions) same-motions
+
+  pub sweeps-in : (mv : List ℕ) → MotionsHeld file mv → Sweeps (l .motions) mv file
+  sweeps-in mv held = sweeps-fit file (q .read) mv held (l .motions) same-motions
+
+  pub sets-in : (st mv fr al re : List ℕ) → StatesHeld file st → MotionsHeld file mv
+      → ((s : Site) → s .cells ≡ l .cells → s .horizon ≡ l .horizon → (c t : ℕ) → rowsFree fr c t ≡ free s board c t) → Starts (l .motions) mv file fr al
+      → Explored (Closed (l .states) (l .motions) st mv fr al) fr (cellAt st start) start tick re → SetsOn file board l start tick st mv fr al re
+  sets-in st mv fr al re states moves frees starts explored =
+      sets-right site site-well board (l .states) (l .motions) st mv file fr al re start tick
+      (decoded file (q .read) st mv states moves (l .states) (l .motions) same-states same-motions) (frees site same-cells same-horizon) starts (ranges .start-below) (q .in-time) explored
+
+  -- ---- the plan
+
+  module _ (st mv fr al re : List ℕ) (sets : SetsOn file board l start tick st mv fr al re) (arrival : ℕ)
+      (first : (s : Site) (g : Free) (b : ℕ) → WellFormed s → s .horizon ≡ l .horizon → ReachedRows s g (node b tick) re
+      → arrivalIn s g (node b tick) (l .horizon - tick) goal ≡ cond (leb arrival (l .horizon)) (some (arrival - tick)) none) where
+    arrives : arrivalIn site f (node start tick) (l .horizon - tick) goal ≡ cond (leb arrival (l .horizon)) (some (arrival - tick)) none
+    arrives = first site f start site-well same-horizon (sets .reached)
+
+    pub missing : (path : List ℕ) → l .horizon < arrival → Planned (routeOn file board start tick goal) path Missing
+    unfolding Planned
+    missing path late = route-nowhere site f start tick goal arrival (l .horizon) same-horizon arrives late
+
+    abbrev answered : Search
+    answered = record { site = site; free = f; start = start; sweeps = file; route = routeAfter site f (node start tick) goal (arrival - tick) }
+
+    module _ (later : tick ≤ arrival) (there : arrival ≤ l .horizon) where
+      pub found : Found answered (l .states) (l .motions) st mv fr al re tick goal arrival
+      found = arrival-found site f start tick goal arrival (l .horizon) same-horizon arrives (l .states) (l .motions) st mv file fr al re site-well sets later there
+
+      pub planned : (path : List ℕ) (count : ℕ)
+          → ((x : Search) → Found x (l .states) (l .motions) st mv fr al re tick goal arrival → stepsIn path count ≡ x .route .steps)
+          → Planned (routeOn file board start tick goal) path (Steps count arrival)
+      unfolding Planned
+      planned path count traced =
+          let there-on : tick + (arrival - tick) ≡ arrival = omega arith in
+          let same : stepsIn path count ≡ answered .route .steps = traced answered found in
+          route-there site f start tick goal arrival (l .horizon) same-horizon arrives there
+          ∙ ap some (λ i. record { steps = sym same i; arrival = there-on i })
+
+  -- ---- the light of a plan
+
+  module _ (path : List ℕ) (count arrival : ℕ) (plan : Planned (routeOn file board start tick goal) path (Steps count arrival)) where
+    abbrev route : Route
+    route = record { steps = stepsIn path count; arrival = arrival }
+
+    route-is : routeOn file board start tick goal ≡ some route
+    unfolding Planned
+    route-is = plan
+
+    pub fits : (count ≤ 1000) × (arrival ≤ 1000) × (16 + 5 * count ≤ lightRoom site)
+    fits =
+        let (laid, named, late, in-time) = found-steps site site-well f (node start tick) goal route route-is in
+        let many = length-steps path count in
+        let few = site-well .horizon-range in
+        (omega arith, omega arith, omega arith)
+
+    -- the light with the plan's steps, made from the edition e
+    abbrev written : ℕ → ℕ → Light
+    written e tug =
+        record { edition = e; tug = tug; start = start; tick = tick; goal = goal; arrival = arrival; steps = stepsIn path count }
+
+    light-is : (tug : ℕ) → lightOn file board tug start tick goal ≡ written (edition board) tug
+    unfolding grantedLight bytesView
+    light-is tug = simp route-is
+
+    pub found-route : (tug : ℕ) → Answer.Route (16 + 5 * count) arrival ≡ foundOf (routeOn file board start tick goal) (lightOn file board tug start tick goal)
+    unfolding foundOf
+    found-route tug =
+        let size : length (encode (written (edition board) tug)) ≡ 16 + 5 * count =
+        length-encode (written (edition board) tug) ∙ ap (λ (n : ℕ). 16 + 5 * n) (length-steps path count) in
+        sym (ap (λ (o : Option Route). foundOf o (lightOn file board tug start tick goal)) route-is
+        ∙ ap (foundOf (some route)) (light-is tug)
+        ∙ ap (λ (n : ℕ). Answer.Route n arrival) size)
+
+    pub out-light : (tug e : ℕ) (out now : List ℕ) → e ≡ edition board → now ≡ over (encode (written e tug)) out
+        → now ≡ outOf (routeOn file board start tick goal) (lightOn file board tug start tick goal) out
+    unfolding outOf
+    out-light tug e out now same wrote =
+        wrote
+        ∙ ap (λ (n : ℕ). over (encode (written n tug)) out) same
+        ∙ sym (ap (λ (o : Option Route). outOf o (lightOn file board tug start tick goal) out) route-is
+        ∙ ap (λ (x : Light). outOf (some route) x out) (light-is tug))
+
+  module _ (path : List ℕ) (plan : Planned (routeOn file board start tick goal) path Missing) where
+    no-route : routeOn file board start tick goal ≡ none
+    unfolding Planned
+    no-route = plan
+
+    pub found-nothing : (tug : ℕ) → Answer.Nothing ≡ foundOf (routeOn file board start tick goal) (lightOn file board tug start tick goal)
+    unfolding foundOf
+    found-nothing tug = sym (ap (λ (o : Option Route). foundOf o (lightOn file board tug start tick goal)) no-route)
+
+    pub out-same : (tug : ℕ) (out : List ℕ) → out ≡ outOf (routeOn file board start tick goal) (lightOn file board tug start tick goal) out
+    unfolding outOf
+    out-same tug out = sym (ap (λ (o : Option Route). outOf o (lightOn file board tug start tick goal) out) no-route)

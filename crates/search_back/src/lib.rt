@@ -1,0 +1,133 @@
+// What the sets of a search say: the arrival, and the back pointer of a pair.
+ghost use mathlib.Core.Path.{_≡_};
+ghost use mathlib.Core.Bool.{cond, false};
+ghost use mathlib.Core.Option.{none, some};
+ghost use mathlib.Core.List.{List};
+ghost use Prim.Native.Nat.{ℕ, _+_, _*_, _-_, _≤_, _<_};
+ghost use lib.Dec.{leb};
+ghost use lib.ListN.{length};
+ghost use Rattle.meaning.specs.Site.{Site};
+ghost use Rattle.meaning.specs.Board.{Free};
+ghost use Rattle.meaning.specs.WellFormed.{WellFormed};
+ghost use Rattle.meaning.specs.Reach.{wordBy, reachWord};
+ghost use Rattle.meaning.specs.Plan.{node};
+ghost use Rattle.search_step.specs.Arrays.{States, Motions};
+ghost use Rattle.search_reach.specs.Decoded.{ReachedRows};
+ghost use Rattle.search_back.specs.Words.{waitHit, moveHit, firstMove, arrivalIn, Sets};
+
+// The first tick from `tick` on at which the goal is reached, or the tick after the horizon.
+pub fn arrival(reached: &[u64], goal: usize, tick: usize, horizon: usize) -> usize
+    requires { ⌜ (goal * 16 + 16 ≤ length (now reached)) × ((tick ≤ horizon) × (horizon ≤ 1000)) ⌝ }
+    ensures { λ r. ⌜ tick ≤ r ⌝ }
+    ensures { λ r. ⌜ ((site : Site) (f : Free) (start : ℕ) → WellFormed site → site .horizon ≡ horizon
+        → ReachedRows site f (node start tick) (now (reached .entry))
+        → arrivalIn site f (node start tick) (horizon - tick) goal ≡ cond (leb r horizon) (some (r - tick)) none) ⌝ }
+{
+    let mut t = tick;
+    while t <= horizon {
+        if search_ticks::is_set(reached, goal, t) {
+            return t;
+        }
+        t += 1;
+    }
+    t
+}
+
+// Whether a one-tick wait from a reached pair ends in (s, t).
+fn wait_hit(states: &[u16], frees: &[u64], reached: &[u64], n: usize, s: usize, t: usize) -> bool
+    requires { ⌜ States n (now states) × ((s < n) × ((1 ≤ t) × (t < 1024))) ⌝ }
+    requires { ⌜ (4096 ≤ length (now frees)) × (4096 ≤ length (now reached)) ⌝ }
+    ensures { λ r. ⌜ r ≡ waitHit (now (states .entry)) (now (frees .entry)) (now (reached .entry)) s t ⌝ }
+{
+    if states[s * 2 + 1] != 0 {
+        return false;
+    }
+    let cell = search_step::wide(states[s * 2]);
+    let before = search_ticks::is_set(reached, s, t - 1);
+    let left = search_ticks::is_set(frees, cell, t - 1);
+    let here = search_ticks::is_set(frees, cell, t);
+    before & (left & here)
+}
+
+// Whether motion m from a reached pair ends in (s, t).
+fn move_hit(
+    moves: &[u16],
+    allowed: &[u64],
+    reached: &[u64],
+    k: usize,
+    s: usize,
+    t: usize,
+    m: usize,
+) -> bool
+    requires { ⌜ Motions k (now moves) × ((m < k) × (t < 1024)) ⌝ }
+    requires { ⌜ (k * 16 ≤ length (now allowed)) × (4096 ≤ length (now reached)) ⌝ }
+    ensures { λ r. ⌜ r ≡ moveHit (now (moves .entry)) (now (allowed .entry)) (now (reached .entry)) s t m ⌝ }
+{
+    let to = search_step::wide(moves[m * 5 + 1]);
+    if to != s {
+        return false;
+    }
+    let span = search_step::wide(moves[m * 5 + 2]);
+    if t < span {
+        return false;
+    }
+    let from = search_step::wide(moves[m * 5]);
+    let before = search_ticks::is_set(reached, from, t - span);
+    let may = search_ticks::is_set(allowed, m, t - span);
+    before & may
+}
+
+// 3 and the number of the lowest motion that ends in (s, t), or 0.
+fn first_move(
+    moves: &[u16],
+    allowed: &[u64],
+    reached: &[u64],
+    k: usize,
+    s: usize,
+    t: usize,
+) -> usize
+    requires { ⌜ Motions k (now moves) × (t < 1024) ⌝ }
+    requires { ⌜ (k * 16 ≤ length (now allowed)) × (4096 ≤ length (now reached)) ⌝ }
+    ensures { λ r. ⌜ r ≡ wordBy false (firstMove (now (moves .entry)) (now (allowed .entry)) (now (reached .entry)) k s t) ⌝ }
+{
+    let mut m = 0;
+    while m < k {
+        if move_hit(moves, allowed, reached, k, s, t, m) {
+            return m + 3;
+        }
+        m += 1;
+    }
+    0
+}
+
+// The word of (s, t): 0 not reached, 1 the start, 2 by a wait, 3 + m by motion m.
+pub fn word_at(
+    states: &[u16],
+    moves: &[u16],
+    frees: &[u64],
+    allowed: &[u64],
+    reached: &[u64],
+    n: usize,
+    k: usize,
+    tick: usize,
+    s: usize,
+    t: usize,
+) -> usize
+    requires { ⌜ States n (now states) × Motions k (now moves) ⌝ }
+    requires { ⌜ (4096 ≤ length (now frees)) × ((k * 16 ≤ length (now allowed)) × (4096 ≤ length (now reached))) ⌝ }
+    requires { ⌜ (s < n) × ((tick ≤ t) × (t ≤ 1000)) ⌝ }
+    ensures { λ r. ⌜ ((site : Site) (f : Free) (start : ℕ) (sw : List ℕ) → WellFormed site → t ≤ site .horizon
+        → Sets site f (node start tick) n k (now (states .entry)) (now (moves .entry)) sw (now (frees .entry)) (now (allowed .entry)) (now (reached .entry))
+        → r ≡ reachWord site f (node start tick) (t - tick) s) ⌝ }
+{
+    if tick < t {
+        if wait_hit(states, frees, reached, n, s, t) {
+            return 2;
+        }
+        return first_move(moves, allowed, reached, k, s, t);
+    }
+    if search_ticks::is_set(reached, s, t) {
+        return 1;
+    }
+    0
+}

@@ -1,0 +1,57 @@
+-- `search_fixpoint::none_grown` meets its contract: no growth is noted below s.
+-- Assumes nothing.
+use Prim.Native.Nat.{ℕ, _-_, _≤_, _<_}
+use mathlib.Core.Path.{_≡_}
+use mathlib.Core.Bool.{false≢true, true≢false}
+use lib.ListN.{getD}
+use Rattle.search_fixpoint.proofs.ListLaws.{none-more}
+use Rattle.search_fixpoint.proofs.ProgressLaws.{noted-some}
+use borrow.Author.Needs.{needs}
+use native.Mathlib.Omega.{arith}
+use Rattle.search_fixpoint.proofs.none_grown.Statement.{statement}
+use Rattle.search_fixpoint.proofs.none_grown.Tie as tie
+
+abbrev Inv-loop : tie.InvT-loop
+Inv-loop grown s₀ s = (s ≤ 256) × ((x : ℕ) → x < s → getD grown x 0 ≡ 0)
+
+abbrev μ-loop : tie.MeasureT-loop
+μ-loop grown s₀ s = 256 - s
+
+loop-holds : tie.Need-loop-holds Inv-loop μ-loop
+loop-holds c = (omega arith, λ x h. absurd (omega arith))
+
+mul-if1 : tie.Need-mul-if1 Inv-loop μ-loop
+mul-if1 c = search needs
+
+element-copy-out-if1 : tie.Need-element-copy-out-if1 Inv-loop μ-loop
+element-copy-out-if1 c = search needs
+
+returns : tie.Need-returns Inv-loop μ-loop
+returns c = (λ e. absurd (false≢true e), λ e. noted-some (c .before .before .before .before .args .grown .now) (c .before .before .before .loop .s) (c .if1 .taken))
+
+add-s : tie.Need-add-s Inv-loop μ-loop
+add-s c = search needs
+
+loop-less : tie.Need-loop-less Inv-loop μ-loop
+loop-less c = search needs
+
+loop-again : tie.Need-loop-again Inv-loop μ-loop
+loop-again c = (omega arith, none-more (c .before .before .before .before .args .grown .now) (c .before .before .before .loop .s) (c .before .before .before .loop .inv .1) (c .if1 .left))
+
+returns-2 : tie.Need-returns-2 Inv-loop μ-loop
+returns-2 c = (λ e x h. c .before .loop .inv .1 x (omega arith), λ e. absurd (true≢false e))
+
+pub none-grown-spec : {M : Type 1} → statement M
+none-grown-spec =
+    tie.close
+    (tie.spec
+    Inv-loop
+    μ-loop
+    loop-holds
+    mul-if1
+    element-copy-out-if1
+    returns
+    add-s
+    loop-less
+    loop-again
+    returns-2)

@@ -1,0 +1,210 @@
+// Waits and motions state by state, until no pair of state and tick is new: only states whose sets have grown, and only their own motions.
+ghost use mathlib.Core.Path.{_≡_};
+ghost use mathlib.Core.Bool.{true, false};
+ghost use Prim.Native.Nat.{ℕ, _*_, _≤_, _<_};
+ghost use lib.ListN.{length, getD};
+ghost use Rattle.search_ticks.specs.Rows.{has, total};
+ghost use Rattle.search_step.specs.Arrays.{States, Motions};
+ghost use Rattle.search_step.specs.Sets.{WaitClosed, MoveClosed, Below, Closed, Going, Settled};
+ghost use Rattle.search_fixpoint.specs.Spread.{Listed, MovesClosed, Tried, Noted, Progress, Unnoted, UnnotedBut, NoneGrown, inTurn};
+
+// Lists of the motions from each state, in rising order: at m stands the motion after m, at 2,000 + s the first one of s, and 2,000 ends a list.
+fn lists_of(moves: &[u16], k: usize) -> [u16; 2256]
+    requires { ⌜ Motions k (now moves) ⌝ }
+    ensures { λ r. ⌜ Listed k (now (moves .entry)) r ⌝ }
+{
+    let mut lists = [2000u16; 2256];
+    let mut m = k;
+    while 0 < m {
+        m -= 1;
+        let first = 2000 + search_step::wide(moves[m * 5]);
+        lists[m] = lists[first];
+        lists[first] = m as u16;
+    }
+    lists
+}
+
+// Tries the motions of the list of state s, and notes the states whose sets grow.
+fn move_from(
+    moves: &[u16],
+    allowed: &[u64],
+    reached: &mut [u64],
+    lists: &[u16; 2256],
+    grown: &mut [u64; 256],
+    k: usize,
+    s: usize,
+)
+    requires { ⌜ Motions k (now moves) × ((s < 256) × (length (now grown) ≡ 256)) ⌝ }
+    requires { ⌜ (k * 16 ≤ length (now allowed)) × (4096 ≤ length (now reached)) ⌝ }
+    ensures { λ _. ⌜ Going (Below (MoveClosed (now (moves .entry)) (now (allowed .entry))) k) (now (reached .entry)) (now (reached .exit)) ⌝ }
+    ensures { λ _. ⌜ (length (now (grown .exit)) ≡ 256) × Noted (now (reached .entry)) (now (grown .entry)) (now (reached .exit)) (now (grown .exit)) ⌝ }
+    ensures { λ _. ⌜ (Listed k (now (moves .entry)) (now (lists .entry)) → getD (now (grown .exit)) s 0 ≡ 0
+        → MovesClosed k (now (moves .entry)) (now (allowed .entry)) s (has (now (reached .exit)))) ⌝ }
+    ensures { λ _. ⌜ Progress (now (reached .entry)) (now (reached .exit)) (Unnoted (now (grown .entry)) (now (grown .exit))) ⌝ }
+{
+    let mut m = search_step::wide(lists[2000 + s]);
+    while m < k {
+        let new = search_step::move_one(moves, allowed, reached, k, m);
+        let to = search_step::wide(moves[m * 5 + 1]);
+        grown[to] = grown[to] | new;
+        let after = search_step::wide(lists[m]);
+        if after <= m {
+            return;
+        }
+        m = after;
+    }
+}
+
+// The waits in s, if it is one of the n states.
+fn wait_in(states: &[u16], frees: &[u64], reached: &mut [u64], n: usize, s: usize)
+    requires { ⌜ States n (now states) × ((4096 ≤ length (now frees)) × (4096 ≤ length (now reached))) ⌝ }
+    ensures { λ _. ⌜ Going (Below (WaitClosed (now (states .entry)) (now (frees .entry))) n) (now (reached .entry)) (now (reached .exit)) ⌝ }
+    ensures { λ _. ⌜ (s < n → WaitClosed (now (states .entry)) (now (frees .entry)) s (has (now (reached .exit)))) ⌝ }
+    ensures { λ _. ⌜ ((x t : ℕ) → (x ≡ s → ⊥) → t < 1024 → has (now (reached .exit)) x t ≡ has (now (reached .entry)) x t) ⌝ }
+    ensures { λ _. ⌜ Progress (now (reached .entry)) (now (reached .exit)) (Unit {0}) ⌝ }
+{
+    if n <= s {
+        return;
+    }
+    search_step::wait_one(states, frees, reached, n, s);
+}
+
+// Tries the waits and the motions of state s, if its set has grown since the last time.
+fn spread_one(
+    states: &[u16],
+    moves: &[u16],
+    frees: &[u64],
+    allowed: &[u64],
+    reached: &mut [u64],
+    lists: &[u16; 2256],
+    grown: &mut [u64; 256],
+    n: usize,
+    k: usize,
+    s: usize,
+)
+    requires { ⌜ States n (now states) × (Motions k (now moves) × ((s < 256) × (length (now grown) ≡ 256))) ⌝ }
+    requires { ⌜ (4096 ≤ length (now frees)) × ((k * 16 ≤ length (now allowed)) × (4096 ≤ length (now reached))) ⌝ }
+    ensures { λ _. ⌜ Going (Closed n k (now (states .entry)) (now (moves .entry)) (now (frees .entry)) (now (allowed .entry)))
+        (now (reached .entry)) (now (reached .exit)) ⌝ }
+    ensures { λ _. ⌜ length (now (grown .exit)) ≡ 256 ⌝ }
+    ensures { λ _. ⌜ (Listed k (now (moves .entry)) (now (lists .entry))
+        → Tried n k (now (states .entry)) (now (moves .entry)) (now (frees .entry)) (now (allowed .entry)) (now (grown .entry)) (has (now (reached .entry)))
+        → Tried n k (now (states .entry)) (now (moves .entry)) (now (frees .entry)) (now (allowed .entry)) (now (grown .exit)) (has (now (reached .exit)))) ⌝ }
+    ensures { λ _. ⌜ Progress (now (reached .entry)) (now (reached .exit)) (UnnotedBut (now (grown .entry)) (now (grown .exit)) s) ⌝ }
+{
+    if grown[s] == 0 {
+        return;
+    }
+    grown[s] = 0;
+    if search_ticks::bits(reached, s) == 0 {
+        return;
+    }
+    wait_in(states, frees, reached, n, s);
+    move_from(moves, allowed, reached, lists, grown, k, s);
+}
+
+// State s of 256, counted from the other end where the turn is odd.
+fn in_turn(s: usize, turn: usize) -> usize
+    requires { ⌜ s < 256 ⌝ }
+    ensures { λ r. ⌜ (r ≡ inTurn s turn) × (r < 256) ⌝ }
+{
+    if turn % 2 == 0 {
+        return s;
+    }
+    255 - s
+}
+
+// Tries every state, up or down in turn.
+fn spread_all(
+    states: &[u16],
+    moves: &[u16],
+    frees: &[u64],
+    allowed: &[u64],
+    reached: &mut [u64],
+    lists: &[u16; 2256],
+    grown: &mut [u64; 256],
+    n: usize,
+    k: usize,
+    turn: usize,
+)
+    requires { ⌜ States n (now states) × (Motions k (now moves) × (length (now grown) ≡ 256)) ⌝ }
+    requires { ⌜ (4096 ≤ length (now frees)) × ((k * 16 ≤ length (now allowed)) × (4096 ≤ length (now reached))) ⌝ }
+    ensures { λ _. ⌜ Going (Closed n k (now (states .entry)) (now (moves .entry)) (now (frees .entry)) (now (allowed .entry)))
+        (now (reached .entry)) (now (reached .exit)) ⌝ }
+    ensures { λ _. ⌜ length (now (grown .exit)) ≡ 256 ⌝ }
+    ensures { λ _. ⌜ (Listed k (now (moves .entry)) (now (lists .entry))
+        → Tried n k (now (states .entry)) (now (moves .entry)) (now (frees .entry)) (now (allowed .entry)) (now (grown .entry)) (has (now (reached .entry)))
+        → Tried n k (now (states .entry)) (now (moves .entry)) (now (frees .entry)) (now (allowed .entry)) (now (grown .exit)) (has (now (reached .exit)))) ⌝ }
+    ensures { λ _. ⌜ Progress (now (reached .entry)) (now (reached .exit)) (NoneGrown (now (grown .exit))) ⌝ }
+{
+    let mut s = 0;
+    while s < 256 {
+        let x = in_turn(s, turn);
+        spread_one(
+            states,
+            moves,
+            frees,
+            allowed,
+            reached,
+            lists,
+            grown,
+            n,
+            k,
+            x,
+        );
+        s += 1;
+    }
+}
+
+// No set has grown.
+fn none_grown(grown: &[u64; 256]) -> bool
+    ensures { λ r. ⌜ (r ≡ true → NoneGrown (now (grown .entry))) ⌝ }
+    ensures { λ r. ⌜ (r ≡ false → 0 < total (now (grown .entry))) ⌝ }
+{
+    let mut s = 0;
+    while s < 256 {
+        if grown[s] != 0 {
+            return false;
+        }
+        s += 1;
+    }
+    true
+}
+
+// All waits and all motions until nothing new is set: the states whose sets have grown, up and down in turn.
+pub fn settle(
+    states: &[u16],
+    moves: &[u16],
+    frees: &[u64],
+    allowed: &[u64],
+    reached: &mut [u64],
+    n: usize,
+    k: usize,
+)
+    requires { ⌜ States n (now states) × Motions k (now moves) ⌝ }
+    requires { ⌜ (4096 ≤ length (now frees)) × ((k * 16 ≤ length (now allowed)) × (4096 ≤ length (now reached))) ⌝ }
+    ensures { λ _. ⌜ Settled (Closed n k (now (states .entry)) (now (moves .entry)) (now (frees .entry)) (now (allowed .entry)))
+        (now (reached .entry)) (now (reached .exit)) ⌝ }
+{
+    let lists = lists_of(moves, k);
+    let mut grown = [1u64; 256];
+    let mut turn: usize = 0;
+    loop {
+        if none_grown(&grown) {
+            return;
+        }
+        spread_all(
+            states,
+            moves,
+            frees,
+            allowed,
+            reached,
+            &lists,
+            &mut grown,
+            n,
+            k,
+            turn,
+        );
+        turn = (turn + 1) % 2;
+    }
+}

@@ -1,0 +1,138 @@
+-- `search_reach::allow_all` meets its contract: the rows below m are done, and the others are full.
+-- Assumes nothing.
+use Prim.Native.Nat.{_-_, _≤_}
+use native.Mathlib.Omega.{arith}
+use mathlib.Core.Path.{_≡_, refl, _∙_}
+use lib.ListN.{length}
+use borrow.Author.Needs.{needs}
+use Rattle.search_free.proofs.RunLaws.{blank}
+use Rattle.search_reach.proofs.AllowLaws.{Allowing, allowing-start, allowing-turn, allowing-end}
+use Rattle.search_reach.proofs.allow_all.Statement.{statement}
+use Rattle.search_reach.proofs.allow_all.Tie as tie
+
+abbrev Inv-loop : tie.InvT-loop
+Inv-loop allowed₀ frees moves sweeps k runs m₀ allowed m = (m ≤ k) × ((length allowed ≡ length allowed₀) × Allowing moves sweeps frees allowed k m)
+
+abbrev μ-loop : tie.MeasureT-loop
+μ-loop allowed₀ frees moves sweeps k runs m₀ allowed m = k - m
+
+fill-runs-requires : tie.Need-fill-runs-requires Inv-loop μ-loop
+fill-runs-requires c κs = (blank 25600, omega arith)
+
+loop-holds : tie.Need-loop-holds Inv-loop μ-loop
+loop-holds c =
+    let start = c .before .before .before .before .before .before in
+    (omega arith, (refl, allowing-start _ _ _ _ _ (start .pre .1 .1)))
+
+mul-wide : tie.Need-mul-wide Inv-loop μ-loop
+mul-wide c =
+    let start = c .before .before .before .before .before .before .before .before in
+    omega (arith, start .pre .1 .0 .0 .few)
+
+add-wide : tie.Need-add-wide Inv-loop μ-loop
+add-wide c =
+    let start = c .before .before .before .before .before .before .before .before in
+    omega (arith, start .pre .1 .0 .0 .few)
+
+mul-wide-2 : tie.Need-mul-wide-2 Inv-loop μ-loop
+mul-wide-2 c =
+    let start = c .before .before .before .before .before .before .before .before in
+    omega (arith, start .pre .1 .0 .0 .few)
+
+shared-slice-read-wide : tie.Need-shared-slice-read-wide Inv-loop μ-loop
+shared-slice-read-wide c =
+    let start = c .before .before .before .before .before .before .before .before .before in
+    omega (arith, start .pre .1 .0 .0 .long)
+
+wide-requires : tie.Need-wide-requires Inv-loop μ-loop
+wide-requires c κs = omega arith
+
+mul-wide-3 : tie.Need-mul-wide-3 Inv-loop μ-loop
+mul-wide-3 c =
+    let start = c .before .before .before .before .before .before .before .before .before .before in
+    omega (arith, start .pre .1 .0 .0 .few)
+
+add-wide-2 : tie.Need-add-wide-2 Inv-loop μ-loop
+add-wide-2 c =
+    let start = c .before .before .before .before .before .before .before .before .before .before in
+    omega (arith, start .pre .1 .0 .0 .few)
+
+mul-wide-4 : tie.Need-mul-wide-4 Inv-loop μ-loop
+mul-wide-4 c =
+    let start = c .before .before .before .before .before .before .before .before .before .before in
+    omega (arith, start .pre .1 .0 .0 .few)
+
+shared-slice-read-wide-2 : tie.Need-shared-slice-read-wide-2 Inv-loop μ-loop
+shared-slice-read-wide-2 c =
+    let start = c .before .before .before .before .before .before .before .before .before .before .before in
+    omega (arith, start .pre .1 .0 .0 .long)
+
+wide-requires-2 : tie.Need-wide-requires-2 Inv-loop μ-loop
+wide-requires-2 c κs = omega arith
+
+slice-aggregate-allow-one : tie.Need-slice-aggregate-allow-one Inv-loop μ-loop
+slice-aggregate-allow-one c = search needs
+
+allow-one-requires : tie.Need-allow-one-requires Inv-loop μ-loop
+allow-one-requires c κs =
+    let in-loop = c .before .before .before .before .before .before in
+    let turn = in-loop .before in
+    let b = turn .before .before .before .before .before .before .before in
+    let place = c .before .before .before .before .wide .ensures in
+    let count = c .before .before .wide2 .ensures in
+    let runs = turn .before .fill-runs .ensures in
+    ((omega (arith, turn .loop .inv .1 .0), (omega (arith, runs .sized), runs .fits)), rw (place, count) (b .pre .1 .0 .1 (turn .loop .m) (in-loop .loop-test .taken)))
+
+add-m : tie.Need-add-m Inv-loop μ-loop
+add-m c = omega arith
+
+loop-less : tie.Need-loop-less Inv-loop μ-loop
+loop-less c = omega arith
+
+loop-again : tie.Need-loop-again Inv-loop μ-loop
+loop-again c =
+    let after-wide2 = c .before .before .before .before .before in
+    let after-wide = after-wide2 .before .before in
+    let in-loop = after-wide .before .before in
+    let a = in-loop .before in
+    let i = a .loop .inv .1 in
+    let done = c .before .before .allow-one .ensures in (
+      omega arith,
+      (
+        done .0 ∙ i .0,
+        allowing-turn _ _ _ _ _ _ _ _ _ (in-loop .loop-test .taken) (after-wide .wide .ensures) (after-wide2 .wide2 .ensures)
+            (done .1 _ (a .before .fill-runs .ensures)) (i .1),
+      ),
+    )
+
+same-length : tie.Need-same-length Inv-loop μ-loop
+same-length c = c .before .loop .inv .1 .0
+
+returns : tie.Need-returns Inv-loop μ-loop
+returns c = allowing-end _ _ _ _ _ _ (omega arith) (c .before .loop .inv .1 .1)
+
+pub allow-all-spec : {M : Type 1} → statement M
+allow-all-spec =
+    tie.close
+    (tie.spec
+    Inv-loop
+    μ-loop
+    fill-runs-requires
+    loop-holds
+    mul-wide
+    add-wide
+    mul-wide-2
+    shared-slice-read-wide
+    wide-requires
+    mul-wide-3
+    add-wide-2
+    mul-wide-4
+    shared-slice-read-wide-2
+    wide-requires-2
+    slice-aggregate-allow-one
+    allow-one-requires
+    add-m
+    loop-less
+    loop-again
+    same-length
+    returns)

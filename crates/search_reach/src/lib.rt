@@ -1,0 +1,88 @@
+// The search over a site in arrays: the ticks at which each motion may begin, and the pairs of state and tick that are reached.
+ghost use mathlib.Core.Path.{_≡_};
+ghost use mathlib.Core.Bool.{_&&_, true};
+ghost use Prim.Native.Nat.{ℕ, _+_, _*_, _≤_, _<_};
+ghost use lib.ListN.{length};
+ghost use Rattle.meaning.specs.Plan.{sweepsFree};
+ghost use mathlib.Core.List.{List};
+ghost use Rattle.search_ticks.specs.Rows.{has, Words, Changed};
+ghost use Rattle.search_free.specs.Frees.{rowsFree, Runs};
+ghost use Rattle.search_step.specs.Arrays.{cellAt, States, Motions};
+ghost use Rattle.search_step.specs.Sets.{Closed, Explored};
+ghost use Rattle.site_sweeps.specs.Places.{sweepsAt};
+ghost use Rattle.search_reach.specs.Decoded.{SweepsIn, Sweeps, Starts};
+
+fn byte(x: u8) -> usize
+    ensures { λ r. ⌜ (r ≡ x) × (r < 256) ⌝ }
+{
+    x as usize
+}
+
+// ---- allowed starts
+
+// Narrows row m down by `count` sweeps, three bytes each, from `place` on.
+fn allow_one(allowed: &mut [u64], runs: &[u64], sweeps: &[u8], m: usize, place: usize, count: usize)
+    requires { ⌜ (m * 16 + 16 ≤ length (now allowed)) × ((25600 ≤ length (now runs)) × Words (now runs)) ⌝ }
+    requires { ⌜ SweepsIn (now sweeps) place count ⌝ }
+    ensures { λ _. ⌜ length (now (allowed .exit)) ≡ length (now (allowed .entry)) ⌝ }
+    ensures { λ _. ⌜ ((f : List ℕ) → Runs f (now (runs .entry)) 1280 → Changed (now (allowed .entry)) (now (allowed .exit)) m
+        (λ (t : ℕ). has (now (allowed .entry)) m t && sweepsFree (rowsFree f) (sweepsAt (now (sweeps .entry)) place count) t)) ⌝ }
+{
+    let mut p = place;
+    let mut i = 0;
+    while i < count {
+        let cell = byte(sweeps[p]);
+        let first = byte(sweeps[p + 1]);
+        let last = byte(sweeps[p + 2]);
+        search_free::narrow_run(allowed, runs, m, cell, first, last);
+        p += 3;
+        i += 1;
+    }
+}
+
+// The allowed starts of the k motions, a row each, in rows that are full.
+pub fn allow_all(allowed: &mut [u64], frees: &[u64], moves: &[u16], sweeps: &[u8], k: usize)
+    requires { ⌜ (k * 16 ≤ length (now allowed)) × (4096 ≤ length (now frees)) ⌝ }
+    requires { ⌜ Motions k (now moves) × Sweeps k (now moves) (now sweeps) ⌝ }
+    requires { ⌜ ((m t : ℕ) → m < k → t < 1024 → has (now allowed) m t ≡ true) ⌝ }
+    ensures { λ _. ⌜ Starts k (now (moves .entry)) (now (sweeps .entry)) (now (frees .entry)) (now (allowed .exit)) ⌝ }
+{
+    let mut runs = [0u64; 25600];
+    search_free::fill_runs(&mut runs, frees);
+    let mut m = 0;
+    while m < k {
+        let place = search_step::wide(moves[m * 5 + 3]);
+        let count = search_step::wide(moves[m * 5 + 4]);
+        allow_one(allowed, &runs, sweeps, m, place, count);
+        m += 1;
+    }
+}
+
+// ---- the search
+
+// The pairs that waits and motions reach from the start, if its cell is free.
+pub fn explore(
+    states: &[u16],
+    moves: &[u16],
+    frees: &[u64],
+    allowed: &[u64],
+    n: usize,
+    k: usize,
+    start: usize,
+    tick: usize,
+) -> [u64; 4096]
+    requires { ⌜ States n (now states) × Motions k (now moves) ⌝ }
+    requires { ⌜ (4096 ≤ length (now frees)) × (k * 16 ≤ length (now allowed)) ⌝ }
+    requires { ⌜ (start < n) × (tick < 1024) ⌝ }
+    ensures { λ l. ⌜ Explored (Closed n k (now (states .entry)) (now (moves .entry)) (now (frees .entry)) (now (allowed .entry)))
+        (now (frees .entry)) (cellAt (now (states .entry)) start) start tick l ⌝ }
+{
+    let mut reached = [0u64; 4096];
+    let cell = search_step::wide(states[start * 2]);
+    if search_ticks::is_set(frees, cell, tick) {
+        search_ticks::seed(&mut reached, start, tick);
+        search_fixpoint::settle(states, moves, frees, allowed, &mut reached, n, k);
+        return reached;
+    }
+    reached
+}

@@ -1,0 +1,230 @@
+-- The loop that changes a row word by word, the bits of the changed row, and the sum of the words, which grows with every new bit.
+-- Assumes nothing.
+use Prim.Native.Nat.{ℕ, zero, suc, _+_, _-_, _*_, _/_, _%_, _^_, _≤_, _<_}
+use native.Mathlib.Nat.{suc-mul}
+use native.Mathlib.Numerals.{add-one}
+use native.Mathlib.Omega.{arith}
+use mathlib.Core.Path.{_≡_, refl, sym, ap, ap₂, _∙_}
+use mathlib.Core.Bool.{false}
+use mathlib.Core.List.{List, [], _∷_}
+use lib.Bits.{bitOr, bitXor, and-le-l, and-le-r, or-add-and, xor-add-and, xor-self}
+use lib.Dec.{ltb, eqb}
+use lib.ListN.{length, getD, set, replicate, length-set, length-replicate, getD-replicate, List·getD-eq-default}
+use lib.Seq.{getD-set-same, getD-set-other, set-getD}
+use borrow.Author.Tests.{ltb-true, ltb-false, eqb-true, eqb-false}
+use Rattle.meaning.proofs.BasicsLaws.{decide}
+use Rattle.search_ticks.specs.Bits.{bit, windowOf}
+use Rattle.search_ticks.specs.Rows.{at, has, Words, total, Grown}
+use Rattle.search_ticks.proofs.BitLaws.{or-zero, bit-past, window-low, window-high}
+
+pub zeros-at : (n i : ℕ) → getD (replicate {A = ℕ} n 0) i 0 ≡ 0
+zeros-at n i =
+    decide (ltb i n)
+    (λ e. getD-replicate {A = ℕ} n i 0 0 (ltb-true i n e))
+    (λ e. List·getD-eq-default (replicate n 0) 0 {n = i} (omega (arith, ltb-false i n e, length-replicate {A = ℕ} n 0)))
+
+pub zero-bit : (i : ℕ) → bit 0 i ≡ false
+zero-bit i = bit-past 0 i 0 (omega arith) (omega arith)
+
+-- ---- words i to i + k of the row at b become g of their number and what they were
+unfoldable pub mapRow : (ℕ → ℕ → ℕ) → ℕ → ℕ → ℕ → List ℕ → List ℕ
+mapRow g b zero i l = l
+mapRow g b (suc k) i l = mapRow g b k (suc i) (set l (b + i) (g i (getD l (b + i) 0)))
+
+module _ (g : ℕ → ℕ → ℕ) (b : ℕ) where
+  pub map-length : (k i : ℕ) (l : List ℕ) → length (mapRow g b k i l) ≡ length l
+  unfolding mapRow
+  map-length zero i l = refl
+  map-length (suc k) i l = map-length k (suc i) _ ∙ length-set l (b + i) _
+
+  pub map-before : (k i : ℕ) (l : List ℕ) (j : ℕ) → j < b + i → getD (mapRow g b k i l) j 0 ≡ getD l j 0
+  unfolding mapRow
+  map-before zero i l j h = refl
+  map-before (suc k) i l j h = map-before k (suc i) _ j (omega arith) ∙ getD-set-other l (b + i) j _ 0 (λ e. omega arith)
+
+  pub map-after : (k i : ℕ) (l : List ℕ) (j : ℕ) → b + i + k ≤ j → getD (mapRow g b k i l) j 0 ≡ getD l j 0
+  unfolding mapRow
+  map-after zero i l j h = refl
+  map-after (suc k) i l j h = map-after k (suc i) _ j (omega arith) ∙ getD-set-other l (b + i) j _ 0 (λ e. omega arith)
+
+  pub map-in : (k i : ℕ) (l : List ℕ) (j : ℕ) → b + i + k ≤ length l → i ≤ j → j < i + k → getD (mapRow g b k i l) (b + j) 0 ≡ g j (getD l (b + j) 0)
+  unfolding mapRow
+  map-in zero i l j n a h = absurd (omega arith)
+  map-in (suc k) i l j n a h =
+      let v : ℕ = g i (getD l (b + i) 0) in
+      let m : length (set l (b + i) (g i (getD l (b + i) 0))) ≡ length l = length-set l (b + i) _ in
+      decide (ltb i j)
+      (λ e.
+      let lt : i < j = ltb-true i j e in
+      map-in k (suc i) (set l (b + i) (g i (getD l (b + i) 0))) j (omega arith) lt (omega arith)
+      ∙ ap (g j) (getD-set-other l (b + i) (b + j) _ 0 (λ x. omega arith)))
+      (λ e.
+      let eq : j ≡ i = omega (arith, ltb-false i j e) in
+      rw eq (map-before k (suc i) (set l (b + i) (g i (getD l (b + i) 0))) (b + i) (omega arith) ∙ getD-set-same l (b + i) _ 0 (omega arith)))
+
+  -- the loop's turns, by what is left to do
+  pub map-turn : (i : ℕ) (l : List ℕ) (w : List ℕ) → i < 16 → mapRow g b (16 - i) i l ≡ w → mapRow g b (16 - (i + 1)) (i + 1) (set l (b + i) (g i (getD l (b + i) 0))) ≡ w
+  unfolding mapRow
+  map-turn i l w h e =
+      let n : 16 - i ≡ suc (16 - (i + 1)) = omega arith in
+      let z : mapRow g b (suc (16 - (i + 1))) i l ≡ w = sym (ap (λ (k : ℕ). mapRow g b k i l) n) ∙ e in
+      step (16 - (i + 1)) z
+    where
+      step : (k : ℕ) → mapRow g b (suc k) i l ≡ w → mapRow g b k (i + 1) (set l (b + i) (g i (getD l (b + i) 0))) ≡ w
+      step k z = rw (add-one i) z
+
+  pub map-end : (i : ℕ) (l w : List ℕ) → 16 ≤ i → i ≤ 16 → mapRow g b (16 - i) i l ≡ w → l ≡ w
+  unfolding mapRow
+  map-end i l w a h e =
+      let n : 16 - i ≡ 0 = omega arith in
+      shut (16 - i) n e
+    where
+      shut : (k : ℕ) → k ≡ 0 → mapRow g b k i l ≡ w → l ≡ w
+      shut zero n z = z
+      shut (suc k) n z = absurd (omega arith)
+
+  -- the bits of a changed row, and of the others
+  pub map-bit : (l : List ℕ) (j : ℕ) → b + 16 ≤ length l → b * 64 ≤ j → j < b * 64 + 1024 → at (mapRow g b 16 0 l) j ≡ bit (g (j / 64 - b) (getD l (j / 64) 0)) (j % 64)
+  unfolding at
+  map-bit l j n a h =
+      let e : j / 64 ≡ b + (j / 64 - b) = omega arith in
+      ap (λ (x : ℕ). bit x (j % 64))
+      (ap (λ (x : ℕ). getD (mapRow g b 16 0 l) x 0) e
+      ∙ map-in 16 0 l (j / 64 - b) (omega arith) (omega arith) (omega arith)
+      ∙ ap (λ (x : ℕ). g (j / 64 - b) (getD l x 0)) (sym e))
+
+  pub map-bit-before : (l : List ℕ) (j : ℕ) → j < b * 64 → at (mapRow g b 16 0 l) j ≡ at l j
+  unfolding at
+  map-bit-before l j h = ap (λ (x : ℕ). bit x (j % 64)) (map-before 16 0 l (j / 64) (omega arith))
+
+  pub map-bit-after : (l : List ℕ) (j : ℕ) → b * 64 + 1024 ≤ j → at (mapRow g b 16 0 l) j ≡ at l j
+  unfolding at
+  map-bit-after l j h = ap (λ (x : ℕ). bit x (j % 64)) (map-after 16 0 l (j / 64) (omega arith))
+
+-- ---- words of 64 bits
+
+pub zero-words : (n : ℕ) → Words (replicate n 0)
+zero-words n i = omega (arith, zeros-at n i)
+
+pub set-words : (l : List ℕ) (i v : ℕ) → Words l → v < 2 ^ 64 → Words (set l i v)
+set-words l i v fit h j =
+    decide (eqb j i)
+    (λ e.
+    let same : j ≡ i = eqb-true j i e in
+    decide (ltb i (length l))
+    (λ u. rw (same, getD-set-same l i v 0 (ltb-true i (length l) u)) h)
+    (λ u.
+    let past : length l ≤ i = ltb-false i (length l) u in
+    omega (arith, List·getD-eq-default (set l i v) 0 {n = j} (omega (arith, length-set l i v)))))
+    (λ e. rw (getD-set-other l i j v 0 (eqb-false j i e)) (fit j))
+
+-- ---- a row that is put into 20 words of 0, from word b on
+
+pub record Putting (g : ℕ → ℕ → ℕ) (b : ℕ) (x : List ℕ) (i : ℕ) : Type 0 where
+  pub sized : length x ≡ 20
+  pub fits : Words x
+  pub left : mapRow g b (16 - i) i x ≡ mapRow g b 16 0 (replicate 20 0)
+
+pub putting-start : (g : ℕ → ℕ → ℕ) (b : ℕ) → Putting g b (replicate 20 0) 0
+putting-start g b = record { sized = refl; fits = zero-words 20; left = refl }
+
+pub putting-turn : (g : ℕ → ℕ → ℕ) (b : ℕ) (x : List ℕ) (i : ℕ) → i < 16 → g i (getD x (b + i) 0) < 2 ^ 64 → Putting g b x i
+    → Putting g b (set x (b + i) (g i (getD x (b + i) 0))) (i + 1)
+putting-turn g b x i h fit p =
+    record {
+      sized = length-set x (b + i) _ ∙ p .sized;
+      fits = set-words x (b + i) (g i (getD x (b + i) 0)) (p .fits) fit;
+      left = map-turn g b i x (mapRow g b 16 0 (replicate 20 0)) h (p .left);
+    }
+
+pub putting-end : (g : ℕ → ℕ → ℕ) (b : ℕ) (x : List ℕ) (i : ℕ) → 16 ≤ i → i ≤ 16 → Putting g b x i → x ≡ mapRow g b 16 0 (replicate 20 0)
+putting-end g b x i past few p = map-end g b i x (mapRow g b 16 0 (replicate 20 0)) past few (p .left)
+
+-- ---- a window of a list of words
+pub window-at : (l : List ℕ) (w r i : ℕ) → Words l → r < 64 → i < 64 → bit (windowOf (getD l w 0) (getD l (w + 1) 0) r) i ≡ at l (w * 64 + r + i)
+unfolding at
+window-at l w r i fit a h = decide (ltb (r + i) 64)
+    (λ e.
+    let lt : r + i < 64 = ltb-true (r + i) 64 e in
+    let d : (w * 64 + r + i) / 64 ≡ w = omega arith in
+    let m : (w * 64 + r + i) % 64 ≡ r + i = omega arith in
+    window-low (getD l w 0) (getD l (w + 1) 0) r i lt ∙ rw (d, m))
+    (λ e.
+    let ge : 64 ≤ r + i = ltb-false (r + i) 64 e in
+    let d : (w * 64 + r + i) / 64 ≡ w + 1 = omega arith in
+    let m : (w * 64 + r + i) % 64 ≡ r + i - 64 = omega arith in
+    let n : i ≡ 64 - r + (r + i - 64) = omega arith in
+    ap (λ (x : ℕ). bit (windowOf (getD l w 0) (getD l (w + 1) 0) r) x) n
+    ∙ window-high (getD l w 0) (getD l (w + 1) 0) r (r + i - 64) (fit w) a (omega arith) ∙ rw (d, m))
+
+-- ---- the rows of a list
+
+module _ (g : ℕ → ℕ → ℕ) (l : List ℕ) (b : ℕ) where
+  -- the other rows stay
+  pub other-row : (s t : ℕ) → (s ≡ b → ⊥) → t < 1024 → has (mapRow g (b * 16) 16 0 l) s t ≡ has l s t
+  unfolding has
+  other-row s t ne h = decide (ltb s b)
+      (λ e. let lt = ltb-true s b e in map-bit-before g (b * 16) l (s * 1024 + t) (omega arith))
+      (λ e. let ge = ltb-false s b e in map-bit-after g (b * 16) l (s * 1024 + t) (omega arith))
+
+  -- the row itself
+  pub this-row : (t : ℕ) → t < 1024 → b * 16 + 16 ≤ length l → has (mapRow g (b * 16) 16 0 l) b t ≡ bit (g (t / 64) (getD l (b * 16 + t / 64) 0)) (t % 64)
+  unfolding has
+  this-row t h n =
+      let i : (b * 1024 + t) / 64 - b * 16 ≡ t / 64 = omega arith in
+      let j : (b * 1024 + t) / 64 ≡ b * 16 + t / 64 = omega arith in
+      let k : (b * 1024 + t) % 64 ≡ t % 64 = omega arith in
+      map-bit g (b * 16) l (b * 1024 + t) n (omega arith) (omega arith) ∙ ap₂ (λ (x y : ℕ). bit x y) (ap₂ (λ (x y : ℕ). g x (getD l y 0)) i j) k
+
+pub has-is : (l : List ℕ) (s t : ℕ) → has l s t ≡ bit (getD l (s * 16 + t / 64) 0) (t % 64)
+unfolding has at
+has-is l s t =
+    let j : (s * 1024 + t) / 64 ≡ s * 16 + t / 64 = omega arith in
+    let k : (s * 1024 + t) % 64 ≡ t % 64 = omega arith in
+    ap₂ (λ (x y : ℕ). bit (getD l x 0) y) j k
+
+pub empty-row : (n s t : ℕ) → has (replicate n 0) s t ≡ false
+empty-row n s t = has-is (replicate n 0) s t ∙ ap (λ (w : ℕ). bit w (t % 64)) (zeros-at n (s * 16 + t / 64)) ∙ zero-bit (t % 64)
+
+-- ---- the sum of the words
+pub total-set : (l : List ℕ) (i v : ℕ) → i < length l → total (set l i v) + getD l i 0 ≡ total l + v
+unfolding total
+total-set [] i v h = absurd (omega arith)
+total-set (x ∷ l) zero v h = omega arith
+total-set (x ∷ l) (suc i) v h = omega (arith, total-set l i v (omega arith))
+
+pub total-bound : (l : List ℕ) (n : ℕ) → ((i : ℕ) → getD l i 0 < n) → total l ≤ length l * n
+unfolding total
+total-bound [] n h = omega arith
+total-bound (x ∷ l) n h = omega (arith, h 0, total-bound l n (λ i. h (suc i)), suc-mul (length l) n)
+
+pub grown-start : (l : List ℕ) → Grown l l 0
+grown-start l = record { same = λ e. refl; more = λ h. absurd (omega arith); sized = refl }
+
+pub grown-turn : (l₀ l : List ℕ) (d k y : ℕ) → k < length l → Grown l₀ l d → Grown l₀ (set l k (bitOr (getD l k 0) y)) (bitOr d (bitXor (bitOr (getD l k 0) y) (getD l k 0)))
+grown-turn l₀ l d k y h g = go (getD l k 0) (bitOr (getD l k 0) y) refl (or-ge (getD l k 0) y)
+  where
+    or-ge : (a b : ℕ) → a ≤ bitOr a b
+    or-ge a b = omega (arith, or-add-and a b, and-le-r a b)
+
+    xor-same : (a b : ℕ) → bitXor a b ≡ 0 → a ≡ b
+    xor-same a b e = omega (arith, xor-add-and a b, and-le-l a b, and-le-r a b)
+
+    go : (old new : ℕ) → getD l k 0 ≡ old → old ≤ new → Grown l₀ (set l k new) (bitOr d (bitXor new old))
+    go old new e ge = record {
+      same = λ z. let p = or-zero d (bitXor new old) z in
+          let q : new ≡ getD l k 0 = xor-same new old (p .1) ∙ sym e in
+          ap (λ (x : ℕ). set l k x) q ∙ set-getD l k 0 ∙ g .same (p .0);
+      more = λ z. decide (eqb d 0)
+          (λ u. let dz : d ≡ 0 = eqb-true d 0 u in
+          let ne : new ≡ old → ⊥ =
+          λ x.
+          let w : bitOr d (bitXor new old) ≡ 0 =
+          ap (λ (n : ℕ). bitOr n (bitXor new old)) dz ∙ ap (λ (n : ℕ). bitXor n old) x ∙ xor-self old in
+          omega arith in
+          let s : l ≡ l₀ = g .same dz in
+          let t = ap total s in
+          omega (arith, total-set l k new h))
+          (λ u. omega (arith, eqb-false d 0 u, g .more (omega (arith, eqb-false d 0 u)), total-set l k new h));
+      sized = length-set l k new ∙ g .sized;
+    }

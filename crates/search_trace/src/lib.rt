@@ -1,0 +1,82 @@
+// The walk back from the goal: the steps of the route, as a stack of codes.
+ghost use mathlib.Core.Path.{_≡_};
+ghost use mathlib.Core.List.{_∷_};
+ghost use Prim.Native.Nat.{_*_, _≤_, _<_};
+ghost use lib.ListN.{length};
+ghost use Rattle.meaning.specs.Plan.{move};
+ghost use Rattle.meaning.specs.Reach.{waitOne};
+ghost use Rattle.search_step.specs.Arrays.{States, Motions};
+ghost use Rattle.light_write.specs.Codes.{stepOfCode, stepsIn};
+ghost use Rattle.search_trace.specs.Turns.{waitInFront, Search, Found};
+
+// Puts a code on top.
+fn push(path: &mut [u16], count: usize, code: u16) -> usize
+    requires { ⌜ count < length (now path) ⌝ }
+    ensures { λ r. ⌜ stepsIn (now (path .exit)) r ≡ stepOfCode code ∷ stepsIn (now (path .entry)) count ⌝ }
+{
+    path[count] = code;
+    count + 1
+}
+
+// One more tick of waiting in front of the steps: a wait on top grows by it.
+fn push_wait(path: &mut [u16; 1024], count: usize) -> usize
+    requires { ⌜ (count < 1024) × (waitInFront (stepsIn (now path) count) < 1000) ⌝ }
+    ensures { λ r. ⌜ stepsIn (now (path .exit)) r ≡ waitOne (stepsIn (now (path .entry)) count) ⌝ }
+{
+    if count == 0 {
+        return push(path, count, 1);
+    }
+    let top = path[count - 1];
+    if top < light_write::FIRST_MOVE {
+        return push(path, count - 1, top + 1);
+    }
+    push(path, count, 1)
+}
+
+// The motion m in front of the steps.
+fn push_move(path: &mut [u16; 1024], count: usize, m: usize) -> usize
+    requires { ⌜ (count < 1024) × (m < 2000) ⌝ }
+    ensures { λ r. ⌜ stepsIn (now (path .exit)) r ≡ move m ∷ stepsIn (now (path .entry)) count ⌝ }
+{
+    push(path, count, (m as u16) + light_write::FIRST_MOVE)
+}
+
+// Walks back from the goal at the arrival, and leaves the route's steps in `path`. Answers how many there are.
+pub fn trace_back(
+    states: &[u16],
+    moves: &[u16],
+    frees: &[u64],
+    allowed: &[u64],
+    reached: &[u64],
+    n: usize,
+    k: usize,
+    tick: usize,
+    goal: usize,
+    arrival: usize,
+    path: &mut [u16; 1024],
+) -> usize
+    requires { ⌜ States n (now states) × Motions k (now moves) ⌝ }
+    requires { ⌜ (4096 ≤ length (now frees)) × ((k * 16 ≤ length (now allowed)) × (4096 ≤ length (now reached))) ⌝ }
+    requires { ⌜ (goal < n) × ((x : Search) × Found x n k (now states) (now moves) (now frees) (now allowed) (now reached) tick goal arrival) ⌝ }
+    ensures { λ r. ⌜ ((x : Search)
+        → Found x n k (now (states .entry)) (now (moves .entry)) (now (frees .entry)) (now (allowed .entry)) (now (reached .entry)) tick goal arrival
+        → stepsIn (now (path .exit)) r ≡ x .route .steps) ⌝ }
+{
+    let mut s = goal;
+    let mut t = arrival;
+    let mut count = 0;
+    while tick < t {
+        let w = search_back::word_at(states, moves, frees, allowed, reached, n, k, tick, s, t);
+        if w == 2 {
+            count = push_wait(path, count);
+            t -= 1;
+        } else {
+            let m = w - 3;
+            count = push_move(path, count, m);
+            s = search_step::wide(moves[m * 5]);
+            let span = search_step::wide(moves[m * 5 + 2]);
+            t -= span;
+        }
+    }
+    count
+}

@@ -1,0 +1,78 @@
+-- `site_layout::head_values` meets its contract.
+-- Assumes nothing.
+use Prim.Native.Nat.{_+_}
+use mathlib.Core.Path.{_≡_, sym, ap, _∙_}
+use mathlib.Core.Bool.{true, false}
+use borrow.Author.Tests.{not-true, not-false}
+use lib.ListN.{getD}
+use Rattle.meaning.specs.Basics.{within, u16At}
+use Rattle.site_layout.specs.Laid.{headValues}
+use borrow.Author.Needs.{needs}
+use Rattle.site_layout.proofs.head_values.Statement.{statement}
+use Rattle.site_layout.proofs.head_values.Tie as tie
+
+number-at-requires : tie.Need-number-at-requires
+number-at-requires c κs = search needs
+
+in-range-requires : tie.Need-in-range-requires
+in-range-requires c κs = search needs
+
+returns : tie.Need-returns
+unfolding headValues
+returns c =
+    let a = c .before .before .before .before .args in
+    let f = a .file .now in
+    let h : within 1 1000 (u16At f (a .at)) ≡ false = sym (ap (within 1 1000) (c .before .before .number-at .ensures .0)) ∙ sym (c .before .in-range .ensures) ∙ not-true _ (c .if1 .taken) in
+    simp h
+
+add-byte-at : tie.Need-add-byte-at
+add-byte-at c = search needs
+
+byte-at-requires : tie.Need-byte-at-requires
+byte-at-requires c κs = search needs
+
+in-range-requires-2 : tie.Need-in-range-requires-2
+in-range-requires-2 c κs = search needs
+
+returns-2 : tie.Need-returns-2
+unfolding headValues
+returns-2 c =
+    let a = c .before .before .before .before .before .before .before .args in
+    let f = a .file .now in
+    let h : within 1 1000 (u16At f (a .at)) ≡ true = sym (ap (within 1 1000) (c .before .before .before .before .before .number-at .ensures .0)) ∙ sym (c .before .before .before .before .in-range .ensures) ∙ not-false _ (c .before .before .before .if1 .left) in
+    let k : within 1 255 (getD f (a .at + 2) 0) ≡ false = sym (ap (within 1 255) (c .before .before .byte-at .ensures .0)) ∙ sym (c .before .in-range2 .ensures) ∙ not-true _ (c .if2 .taken) in
+    simp (h, k)
+
+add-number-at : tie.Need-add-number-at
+add-number-at c = search needs
+
+number-at-requires-2 : tie.Need-number-at-requires-2
+number-at-requires-2 c κs = search needs
+
+in-range-requires-3 : tie.Need-in-range-requires-3
+in-range-requires-3 c κs = search needs
+
+returns-3 : tie.Need-returns-3
+unfolding headValues
+returns-3 c =
+    let a = c .before .before .before .before .before .before .before .before .before .args in
+    let f = a .file .now in
+    let h : within 1 1000 (u16At f (a .at)) ≡ true = sym (ap (within 1 1000) (c .before .before .before .before .before .before .before .number-at .ensures .0)) ∙ sym (c .before .before .before .before .before .before .in-range .ensures) ∙ not-false _ (c .before .before .before .before .before .if1 .left) in
+    let k : within 1 255 (getD f (a .at + 2) 0) ≡ true = sym (ap (within 1 255) (c .before .before .before .before .byte-at .ensures .0)) ∙ sym (c .before .before .before .in-range2 .ensures) ∙ not-false _ (c .before .before .if2 .left) in
+    simp (h, k) (c .in-range3 .ensures ∙ ap (within 1 256) (c .before .number-at2 .ensures .0))
+
+pub head-values-spec : {M : Type 1} → statement M
+head-values-spec =
+    tie.close
+    (tie.spec
+    number-at-requires
+    in-range-requires
+    returns
+    add-byte-at
+    byte-at-requires
+    in-range-requires-2
+    returns-2
+    add-number-at
+    number-at-requires-2
+    in-range-requires-3
+    returns-3)

@@ -1,0 +1,60 @@
+-- `site_layout::is_motion` meets its contract.
+-- Assumes nothing.
+use mathlib.Core.Path.{sym, _∙_}
+use Rattle.meaning.specs.Site.{isMotion}
+use Rattle.site_layout.proofs.Laws.{first-cut, first-end, motion-tag, motion-is}
+use Rattle.fields.proofs.Laws.{is-end, is-cut, is-field}
+use borrow.Author.Needs.{needs}
+use Rattle.site_layout.proofs.is_motion.Statement.{statement}
+use Rattle.site_layout.proofs.is_motion.Tie as tie
+
+read-item-requires : tie.Need-read-item-requires
+read-item-requires c κs = search needs
+
+enum-known-h : tie.Need-enum-known-h
+enum-known-h c = search needs
+
+returns : tie.Need-returns
+returns c =
+    let f = c .before .before .before .before .before .before .before .args .file .now in
+    let w = is-field f (c .before .before .before .before .before .before .before .args .at) _ (sym (c .before .before .before .h .given .1) ∙ c .before .before .before .before .before .read-item .ensures) in
+    sym (motion-tag f (c .before .before .before .before .before .before .before .args .at) _ w (c .if1 .taken))
+
+motion-length-requires : tie.Need-motion-length-requires
+motion-length-requires c κs = search needs
+
+enum-told : tie.Need-enum-told
+enum-told c = search needs
+
+enum-told-2 : tie.Need-enum-told-2
+enum-told-2 c = search needs
+
+returns-2 : tie.Need-returns-2
+returns-2 c =
+    let f = c .before .before .before .before .before .before .before .before .args .file .now in
+    let w = is-field f (c .before .before .before .before .before .before .before .before .args .at) _ (sym (c .before .before .before .before .h .given .1) ∙ c .before .before .before .before .before .before .read-item .ensures) in
+    c .motion-length .ensures ∙ sym (motion-is f (c .before .before .before .before .before .before .before .before .args .at) _ w (c .before .if1 .left))
+
+returns-3 : tie.Need-returns-3
+returns-3 c =
+    let f = c .before .before .before .before .args .file .now in
+    sym (first-cut isMotion f (c .before .before .before .before .args .at) (is-cut f (c .before .before .before .before .args .at) (sym (c .enum-told .given .1) ∙ c .before .before .read-item .ensures)))
+
+returns-4 : tie.Need-returns-4
+returns-4 c =
+    let f = c .before .before .before .before .args .file .now in
+    sym (first-end isMotion f (c .before .before .before .before .args .at) (is-end f (c .before .before .before .before .args .at) (sym (c .enum-told2 .given .1) ∙ c .before .before .read-item .ensures)))
+
+pub is-motion-spec : {M : Type 1} → statement M
+is-motion-spec =
+    tie.close
+    (tie.spec
+    read-item-requires
+    enum-known-h
+    returns
+    motion-length-requires
+    enum-told
+    enum-told-2
+    returns-2
+    returns-3
+    returns-4)

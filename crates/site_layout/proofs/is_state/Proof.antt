@@ -1,0 +1,56 @@
+-- `site_layout::is_state` meets its contract.
+-- Assumes nothing.
+use mathlib.Core.Path.{sym, _∙_}
+use Rattle.meaning.specs.Site.{isState}
+use Rattle.site_layout.proofs.Laws.{first-cut, first-end, state-tag, state-is}
+use Rattle.fields.proofs.Laws.{is-end, is-cut, is-field}
+use borrow.Author.Needs.{needs}
+use Rattle.site_layout.proofs.is_state.Statement.{statement}
+use Rattle.site_layout.proofs.is_state.Tie as tie
+
+read-item-requires : tie.Need-read-item-requires
+read-item-requires c κs = search needs
+
+enum-known-h : tie.Need-enum-known-h
+enum-known-h c = search needs
+
+returns : tie.Need-returns
+returns c =
+    let f = c .before .before .before .before .before .before .before .args .file .now in
+    let w = is-field f (c .before .before .before .before .before .before .before .args .at) _ (sym (c .before .before .before .h .given .1) ∙ c .before .before .before .before .before .read-item .ensures) in
+    sym (state-tag f (c .before .before .before .before .before .before .before .args .at) _ w (c .if1 .taken))
+
+enum-told : tie.Need-enum-told
+enum-told c = search needs
+
+enum-told-2 : tie.Need-enum-told-2
+enum-told-2 c = search needs
+
+returns-2 : tie.Need-returns-2
+returns-2 c =
+    let f = c .before .before .before .before .before .before .before .before .args .file .now in
+    let w = is-field f (c .before .before .before .before .before .before .before .before .args .at) _ (sym (c .before .before .before .before .h .given .1) ∙ c .before .before .before .before .before .before .read-item .ensures) in
+    sym (state-is f (c .before .before .before .before .before .before .before .before .args .at) _ w (c .before .if1 .left))
+
+returns-3 : tie.Need-returns-3
+returns-3 c =
+    let f = c .before .before .before .before .args .file .now in
+    sym (first-cut isState f (c .before .before .before .before .args .at) (is-cut f (c .before .before .before .before .args .at) (sym (c .enum-told .given .1) ∙ c .before .before .read-item .ensures)))
+
+returns-4 : tie.Need-returns-4
+returns-4 c =
+    let f = c .before .before .before .before .args .file .now in
+    sym (first-end isState f (c .before .before .before .before .args .at) (is-end f (c .before .before .before .before .args .at) (sym (c .enum-told2 .given .1) ∙ c .before .before .read-item .ensures)))
+
+pub is-state-spec : {M : Type 1} → statement M
+is-state-spec =
+    tie.close
+    (tie.spec
+    read-item-requires
+    enum-known-h
+    returns
+    enum-told
+    enum-told-2
+    returns-2
+    returns-3
+    returns-4)

@@ -1,0 +1,43 @@
+-- A site file whose fields are laid out well, and the parts of that test.
+-- Assumes nothing.
+use Prim.Native.Nat.{ℕ, _+_, _*_}
+use mathlib.Core.Path.{_≡_}
+use mathlib.Core.List.{List, [], _∷_}
+use mathlib.Core.Bool.{Bool, true, false, _&&_}
+use lib.ListN.{getD}
+use lib.Dec.{eqb}
+use Rattle.meaning.specs.Limits.{horizonLimit, cellLimit, stateLimit, sweepLimit, fieldHeader, headSize, stateSize, motionSize, sweepSize}
+use Rattle.meaning.specs.Basics.{within, u16At}
+use Rattle.meaning.specs.Fields.{Field, fields, complete}
+use Rattle.meaning.specs.Site.{headOf, headGood, laterOf, stateCount, layoutGood, sweepCount, siteOf}
+use Rattle.site_layout.specs.declared.Head.{Head}
+
+-- there is a first field, and p holds of it
+unfoldable pub firstIs : (Field → Bool) → List Field → Bool
+firstIs p [] = false
+firstIs p (f ∷ fs) = p f
+
+-- the head's values in range, where they start at the place at
+unfoldable pub headValues : List ℕ → ℕ → Bool
+headValues file at = within 1 horizonLimit (u16At file at) && within 1 cellLimit (getD file (at + 2) 0) && within 1 stateLimit (u16At file (at + 3))
+
+-- a motion's value may have n bytes
+unfoldable pub motionLength : ℕ → Bool
+motionLength n = within 1 sweepLimit (sweepCount n) && eqb n (motionSize + sweepSize * sweepCount n)
+
+-- where the state i starts, or with all states before it, the first motion
+abbrev pub statePlace : ℕ → ℕ
+statePlace i = fieldHeader + headSize + (fieldHeader + stateSize) * i
+
+-- a file that none of 2 to 4 refuses
+pub record Laid (file : List ℕ) : Type 0 where
+  pub whole : complete (fields file) ≡ true
+  pub head : headGood (headOf file) ≡ true
+  pub layout : layoutGood (stateCount file) (laterOf file) ≡ true
+
+-- the head's values, as the site has them, and where the states start
+pub record HeadIs (file : List ℕ) (head : Head) : Type 0 where
+  pub horizon : head .horizon ≡ siteOf file .horizon
+  pub cells : head .cells ≡ siteOf file .cells
+  pub states : head .states ≡ stateCount file
+  pub start : head .start ≡ statePlace 0

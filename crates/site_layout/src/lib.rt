@@ -1,0 +1,174 @@
+// The layout of a site file: refusals 3 and 4, and the values of its head.
+use fields::Item;
+ghost use mathlib.Core.Path.{_≡_};
+ghost use mathlib.Core.Bool.{true};
+ghost use Prim.Native.Nat.{_+_, _≤_};
+ghost use lib.ListN.{length};
+ghost use Rattle.meaning.specs.Basics.{all, within};
+ghost use Rattle.meaning.specs.Fields.{fields, complete, listed};
+ghost use Rattle.meaning.specs.Site.{headOf, headGood, isState, isMotion, sweepCount, motionsLaid, layoutGood};
+ghost use Rattle.fields.specs.Places.{fieldsAt};
+ghost use Rattle.site_layout.specs.Laid.{firstIs, headValues, motionLength, HeadIs};
+
+fn in_range(n: usize, lo: usize, hi: usize) -> bool
+    ensures { λ r. ⌜ r ≡ within lo hi n ⌝ }
+{
+    if n < lo {
+        return false;
+    }
+    n <= hi
+}
+
+// The head's values, which start at `at`.
+fn head_values(file: &[u8], at: usize) -> bool
+    requires { ⌜ at + 5 ≤ length (now file) ⌝ }
+    ensures { λ r. ⌜ r ≡ headValues (now (file .entry)) at ⌝ }
+{
+    if !in_range(fields::number_at(file, at), 1, 1000) {
+        return false;
+    }
+    if !in_range(fields::byte_at(file, at + 2), 1, 255) {
+        return false;
+    }
+    in_range(fields::number_at(file, at + 3), 1, 256)
+}
+
+// The first field is a head with values in range.
+pub fn head_good(file: &[u8]) -> bool
+    ensures { λ r. ⌜ r ≡ headGood (headOf (now (file .entry))) ⌝ }
+{
+    match fields::read_item(file, 0) {
+        Item::Field(h) => {
+            if h.tag != 1 {
+                return false;
+            }
+            if h.len != 5 {
+                return false;
+            }
+            head_values(file, h.start)
+        }
+        Item::Cut => false,
+        Item::End => false,
+    }
+}
+
+// A state starts at `at`.
+fn is_state(file: &[u8], at: usize) -> bool
+    ensures { λ r. ⌜ r ≡ firstIs isState (listed (fieldsAt (now (file .entry)) at)) ⌝ }
+{
+    match fields::read_item(file, at) {
+        Item::Field(h) => {
+            if h.tag != 2 {
+                return false;
+            }
+            h.len == 2
+        }
+        Item::Cut => false,
+        Item::End => false,
+    }
+}
+
+// How many sweeps a motion's value of `len` bytes has.
+pub fn sweep_count(len: usize) -> usize
+    ensures { λ r. ⌜ r ≡ sweepCount len ⌝ }
+{
+    if len < 5 {
+        return 0;
+    }
+    (len - 5) / 3
+}
+
+// A value of `len` bytes has 1 to 16 sweeps, and nothing beside them.
+fn motion_length(len: usize) -> bool
+    ensures { λ r. ⌜ r ≡ motionLength len ⌝ }
+{
+    let count = sweep_count(len);
+    if !in_range(count, 1, 16) {
+        return false;
+    }
+    len == 5 + 3 * count
+}
+
+// A field that is laid out as a motion starts at `at`.
+fn is_motion(file: &[u8], at: usize) -> bool
+    ensures { λ r. ⌜ r ≡ firstIs isMotion (listed (fieldsAt (now (file .entry)) at)) ⌝ }
+{
+    match fields::read_item(file, at) {
+        Item::Field(h) => {
+            if h.tag != 3 {
+                return false;
+            }
+            motion_length(h.len)
+        }
+        Item::Cut => false,
+        Item::End => false,
+    }
+}
+
+// Each field from `start` on is laid out as a motion.
+fn all_motions(file: &[u8], start: usize) -> bool
+    requires { ⌜ (complete (fieldsAt (now file) start) ≡ true) × (start ≤ length (now file)) ⌝ }
+    ensures { λ r. ⌜ r ≡ all isMotion (listed (fieldsAt (now (file .entry)) start)) ⌝ }
+{
+    let mut at = start;
+    while at < file.len() {
+        if is_motion(file, at) {
+            at = fields::next_field(file, at);
+        } else {
+            return false;
+        }
+    }
+    true
+}
+
+// The fields from `start` on are at most 2,000 motions.
+fn motions_laid(file: &[u8], start: usize) -> bool
+    requires { ⌜ (complete (fieldsAt (now file) start) ≡ true) × (start ≤ length (now file)) ⌝ }
+    ensures { λ r. ⌜ r ≡ motionsLaid (listed (fieldsAt (now (file .entry)) start)) ⌝ }
+{
+    if all_motions(file, start) {
+        fields::count_fields(file, start) <= 2000
+    } else {
+        false
+    }
+}
+
+// From `start` on come `count` states and then the motions.
+pub fn layout_good(file: &[u8], start: usize, count: usize) -> bool
+    requires { ⌜ (complete (fieldsAt (now file) start) ≡ true) × (start ≤ length (now file)) ⌝ }
+    ensures { λ r. ⌜ r ≡ layoutGood count (listed (fieldsAt (now (file .entry)) start)) ⌝ }
+{
+    let mut at = start;
+    let mut left = count;
+    while 0 < left {
+        if is_state(file, at) {
+            at = fields::next_field(file, at);
+            left = left - 1;
+        } else {
+            return false;
+        }
+    }
+    motions_laid(file, at)
+}
+
+// What a good head says: H, C, S, and where the states start.
+pub struct Head {
+    pub horizon: usize,
+    pub cells: u8,
+    pub states: usize,
+    pub start: usize,
+}
+
+pub fn read_head(file: &[u8]) -> Head
+    requires { ⌜ (complete (fields (now file)) ≡ true) × (headGood (headOf (now file)) ≡ true) ⌝ }
+    ensures { λ r. ⌜ HeadIs (now (file .entry)) r ⌝ }
+{
+    let h = fields::header_at(file, 0);
+    let at = h.start;
+    Head {
+        horizon: fields::number_at(file, at),
+        cells: file[at + 2],
+        states: fields::number_at(file, at + 3),
+        start: h.next,
+    }
+}

@@ -1,0 +1,34 @@
+-- Sweeps by their place in a site file.
+-- Assumes nothing.
+use Prim.Native.Nat.{ℕ, _+_, _*_, _≤_, _<_}
+use mathlib.Core.Path.{_≡_}
+use mathlib.Core.List.{List}
+use mathlib.Core.Bool.{true}
+use lib.ListN.{take, drop, getD}
+use Rattle.meaning.specs.Limits.{sweepSize}
+use Rattle.meaning.specs.Site.{Sweep, sweepsOf, handover}
+use Rattle.site_sweeps.specs.declared.Sweep as ReadSweep
+
+-- the sweep at the place at
+abbrev pub sweepAt : List ℕ → ℕ → Sweep
+sweepAt file at = record { cell = getD file at 0; first = getD file (at + 1) 0; last = getD file (at + 2) 0 }
+
+-- n sweeps from the place at on
+unfoldable pub sweepsAt : List ℕ → ℕ → ℕ → List Sweep
+sweepsAt file at n = sweepsOf (take (sweepSize * n) (drop at file))
+
+-- the sweep w uses each offset from j to r
+pub record Within (w : Sweep) (j r : ℕ) : Type 0 where
+  pub on : j ≤ r
+  pub inside : j < r → (w .first ≤ j) × (r ≤ w .last)
+
+-- there is a handover at each offset from j on and below r
+pub record Linked (ws : List Sweep) (j r : ℕ) : Type 0 where
+  pub on : j ≤ r
+  pub each : (i : ℕ) → j ≤ i → i < r → handover ws i ≡ true
+
+-- what r says is the sweep w
+pub record SweepIs (w : Sweep) (r : ReadSweep.Sweep) : Type 0 where
+  pub cell : r .cell ≡ w .cell
+  pub first : r .first ≡ w .first
+  pub last : r .last ≡ w .last
