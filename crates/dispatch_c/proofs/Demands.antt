@@ -13,8 +13,8 @@ use Rattle.meaning.proofs.Theorems.{exact-demands}
 use Rattle.meaning.specs.Plan.{node}
 use Rattle.answers.specs.Answers.{countedOf, grantedOf}
 use Rattle.answers.proofs.Desks.{boardDone, board-exact, audit-exact, interval-exact, route-exact, lifetimes, lend, turns, allows-meant, every-run}
-use Rattle.dispatch_c.specs.Words.{countedWord, grantedWord, wordNumber, countedIn, grantedIn}
-use Rattle.dispatch_c.proofs.WordLaws.{number-back, interval-back, route-back}
+use Rattle.answers_c.specs.Words.{countedWord, grantedWord, wordNumber, countedIn, grantedIn}
+use Rattle.answers_c.proofs.WordLaws.{number-back, interval-back, route-back}
 use Rattle.dispatch_c.proofs.dispatch_open.Reads as open-reads
 use Rattle.dispatch_c.proofs.dispatch_interval.Reads as interval-reads
 use Rattle.dispatch_c.proofs.dispatch_route.Reads as route-reads

@@ -1,40 +1,10 @@
 // The public calls for C: each answers one word, from which a caller reads the number and the values back.
-use dispatch::Answer;
-use dispatch::Counted;
-use dispatch::Granted;
 ghost use mathlib.Core.Path.{_≡_};
 ghost use mathlib.Core.List.{[]};
 ghost use Rattle.meaning.specs.Calls.{opening, interval, listed, route, audit, post, close, withdraw, meant, lends, onBoard};
 ghost use Rattle.meaning.specs.Plan.{node};
-ghost use Rattle.answers.specs.Answers.{numberOf, countedOf, grantedOf};
-ghost use Rattle.dispatch_c.specs.Words.{countedWord, grantedWord};
-
-fn answer_word(a: Answer) -> u64
-    ensures { λ r. ⌜ r ≡ numberOf a ⌝ }
-{
-    match a {
-        Answer::Accepted => 0,
-        Answer::Refused(n) => n as u64,
-    }
-}
-
-fn counted_word(c: Counted) -> u64
-    ensures { λ r. ⌜ r ≡ countedWord c ⌝ }
-{
-    match c {
-        Counted::Counted(n) => (n as u64) * 256,
-        Counted::Refused(n) => n as u64,
-    }
-}
-
-fn granted_word(g: Granted) -> u64
-    ensures { λ r. ⌜ r ≡ grantedWord g ⌝ }
-{
-    match g {
-        Granted::Granted(len, arrival) => (len as u64) * 256 + (arrival as u64) * 4294967296,
-        Granted::Refused(n) => n as u64,
-    }
-}
+ghost use Rattle.answers.specs.Answers.{countedOf, grantedOf};
+ghost use Rattle.answers_c.specs.Words.{countedWord, grantedWord};
 
 #[no_mangle]
 pub extern "C" fn dispatch_open(file: &[u8], board: &mut [u8]) -> u64
@@ -42,7 +12,7 @@ pub extern "C" fn dispatch_open(file: &[u8], board: &mut [u8]) -> u64
     ensures { λ _. ⌜ now (board .exit) ≡ meant (now (file .entry)) (onBoard (now (board .entry))) opening .lent .board ⌝ }
     ensures { λ _. ⌜ now (file .exit) ≡ now (file .entry) ⌝ }
 {
-    answer_word(dispatch::open(file, board))
+    answers_c::answer_word(dispatch::open(file, board))
 }
 
 #[no_mangle]
@@ -52,7 +22,7 @@ pub extern "C" fn dispatch_interval(file: &[u8], board: &[u8], cell: u16, out: &
     ensures { λ _. ⌜ now (file .exit) ≡ now (file .entry) ⌝ }
     ensures { λ _. ⌜ now (board .exit) ≡ now (board .entry) ⌝ }
 {
-    counted_word(dispatch::interval(file, board, cell, out))
+    answers_c::counted_word(dispatch::interval(file, board, cell, out))
 }
 
 #[no_mangle]
@@ -72,7 +42,7 @@ pub extern "C" fn dispatch_route(
     ensures { λ _. ⌜ now (file .exit) ≡ now (file .entry) ⌝ }
     ensures { λ _. ⌜ now (board .exit) ≡ now (board .entry) ⌝ }
 {
-    granted_word(dispatch::route(file, board, tug, start, tick, goal, out, work))
+    answers_c::granted_word(dispatch::route(file, board, tug, start, tick, goal, out, work))
 }
 
 #[no_mangle]
@@ -82,7 +52,7 @@ pub extern "C" fn dispatch_audit(file: &[u8], board: &[u8], light: &[u8]) -> u64
     ensures { λ _. ⌜ now (board .exit) ≡ now (board .entry) ⌝ }
     ensures { λ _. ⌜ now (light .exit) ≡ now (light .entry) ⌝ }
 {
-    answer_word(dispatch::audit(file, board, light))
+    answers_c::answer_word(dispatch::audit(file, board, light))
 }
 
 #[no_mangle]
@@ -92,7 +62,7 @@ pub extern "C" fn dispatch_post(file: &[u8], board: &mut [u8], light: &[u8]) -> 
     ensures { λ _. ⌜ now (file .exit) ≡ now (file .entry) ⌝ }
     ensures { λ _. ⌜ now (light .exit) ≡ now (light .entry) ⌝ }
 {
-    answer_word(dispatch::post(file, board, light))
+    answers_c::answer_word(dispatch::post(file, board, light))
 }
 
 #[no_mangle]
@@ -108,7 +78,7 @@ pub extern "C" fn dispatch_close(
     ensures { λ _. ⌜ now (board .exit) ≡ meant (now (file .entry)) (onBoard (now (board .entry))) (listed (close holder cell first last)) .lent .board ⌝ }
     ensures { λ _. ⌜ now (file .exit) ≡ now (file .entry) ⌝ }
 {
-    answer_word(dispatch::close(file, board, holder, cell, first, last))
+    answers_c::answer_word(dispatch::close(file, board, holder, cell, first, last))
 }
 
 #[no_mangle]
@@ -117,5 +87,5 @@ pub extern "C" fn dispatch_withdraw(file: &[u8], board: &mut [u8], holder: u8) -
     ensures { λ _. ⌜ now (board .exit) ≡ meant (now (file .entry)) (onBoard (now (board .entry))) (listed (withdraw holder)) .lent .board ⌝ }
     ensures { λ _. ⌜ now (file .exit) ≡ now (file .entry) ⌝ }
 {
-    answer_word(dispatch::withdraw(file, board, holder))
+    answers_c::answer_word(dispatch::withdraw(file, board, holder))
 }

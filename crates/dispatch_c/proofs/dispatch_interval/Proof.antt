@@ -2,7 +2,7 @@
 -- Assumes nothing.
 use mathlib.Core.Path.{ap, _∙_}
 use borrow.Author.Needs.{needs}
-use Rattle.dispatch_c.specs.Words.{countedWord}
+use Rattle.answers_c.specs.Words.{countedWord}
 use Rattle.dispatch_c.proofs.dispatch_interval.Statement.{statement}
 use Rattle.dispatch_c.proofs.dispatch_interval.Tie as tie
 

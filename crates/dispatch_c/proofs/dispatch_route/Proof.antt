@@ -2,7 +2,7 @@
 -- Assumes nothing.
 use mathlib.Core.Path.{ap, _∙_}
 use borrow.Author.Needs.{needs}
-use Rattle.dispatch_c.specs.Words.{grantedWord}
+use Rattle.answers_c.specs.Words.{grantedWord}
 use Rattle.dispatch_c.proofs.dispatch_route.Statement.{statement}
 use Rattle.dispatch_c.proofs.dispatch_route.Tie as tie
 

@@ -1,10 +1,10 @@
--- `dispatch_c::counted_word` meets its contract.
+-- `answers_c::counted_word` meets its contract.
 -- Assumes nothing.
 use mathlib.Core.Path.{ap, sym}
 use borrow.Author.Needs.{needs}
-use Rattle.dispatch_c.specs.Words.{countedWord}
-use Rattle.dispatch_c.proofs.counted_word.Statement.{statement}
-use Rattle.dispatch_c.proofs.counted_word.Tie as tie
+use Rattle.answers_c.specs.Words.{countedWord}
+use Rattle.answers_c.proofs.counted_word.Statement.{statement}
+use Rattle.answers_c.proofs.counted_word.Tie as tie
 
 enum-known-c : tie.Need-enum-known-c
 enum-known-c c = search needs

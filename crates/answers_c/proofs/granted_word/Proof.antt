@@ -1,10 +1,10 @@
--- `dispatch_c::granted_word` meets its contract.
+-- `answers_c::granted_word` meets its contract.
 -- Assumes nothing.
 use mathlib.Core.Path.{ap, sym}
 use borrow.Author.Needs.{needs}
-use Rattle.dispatch_c.specs.Words.{grantedWord}
-use Rattle.dispatch_c.proofs.granted_word.Statement.{statement}
-use Rattle.dispatch_c.proofs.granted_word.Tie as tie
+use Rattle.answers_c.specs.Words.{grantedWord}
+use Rattle.answers_c.proofs.granted_word.Statement.{statement}
+use Rattle.answers_c.proofs.granted_word.Tie as tie
 
 enum-known-g : tie.Need-enum-known-g
 enum-known-g c = search needs

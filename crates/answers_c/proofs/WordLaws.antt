@@ -23,7 +23,7 @@ use Rattle.meaning.proofs.SiteLaws.{read-well}
 use Rattle.meaning.proofs.CallLaws.{meant-number, meant-by, accepted-parts, parts-read, granted-found}
 use Rattle.meaning.proofs.Theorems.{all-laws}
 use Rattle.answers.specs.Answers.{countedOf, grantedOf}
-use Rattle.dispatch_c.specs.Words.{countedWord, grantedWord, wordNumber, beside, countedIn, grantedIn}
+use Rattle.answers_c.specs.Words.{countedWord, grantedWord, wordNumber, beside, countedIn, grantedIn}
 
 -- ---- numbers
 
