@@ -1,10 +1,10 @@
 // The board: how a byte sorts, the edition, which ticks of a cell are free, who stands, and what is written.
 ghost use mathlib.Core.Path.{_≡_};
 ghost use mathlib.Core.Bool.{cond, _&&_};
-ghost use Prim.Native.Nat.{_<_, _≤_};
+ghost use Prim.Native.Nat.{_+_, _*_, _<_, _≤_};
 ghost use lib.Dec.{eqb};
 ghost use lib.ListN.{length, replicate};
-ghost use Rattle.meaning.specs.Limits.{header, lastEdition};
+ghost use Rattle.meaning.specs.Limits.{horizonLimit, cellLimit, header, lastEdition};
 ghost use Rattle.meaning.specs.Site.{Site};
 ghost use Rattle.meaning.specs.Board.{sortOf, isTug, isClosure, isHolder, edition, withEdition, nextEdition, free, stands, mark, runTo, clear};
 ghost use Rattle.meaning.specs.Plan.{freeFromTo};
@@ -12,7 +12,10 @@ ghost use Rattle.board.specs.Sorts.{sortCase};
 ghost use Rattle.board.specs.Runs.{Row};
 
 // The bytes of the edition, which stand before those of the cells.
-const HEADER: usize = 4;
+pub const HEADER: usize = 4;
+
+// The edition after which no call changes the board.
+pub const LAST_EDITION: u32 = 4294967295;
 
 // Who holds a byte's pair.
 pub enum Sort {
@@ -78,28 +81,26 @@ pub fn is_holder(h: u8) -> bool
 fn carries(b: u8, h: u8) -> bool
     ensures { λ r. ⌜ r ≡ (isHolder b && eqb b h) ⌝ }
 {
-    match sort_of(b) {
-        Sort::Tug | Sort::Closure => b == h,
-        _ => false,
-    }
+    is_holder(b) & (b == h)
 }
 
 // ---- the edition: four bytes, high byte first
 
-fn wide(x: u8) -> u32
-    ensures { λ r. ⌜ (r ≡ x) × (r < 256) ⌝ }
+fn as_u32(b: u8) -> u32
+    ensures { λ r. ⌜ (r ≡ b) × (r < 256) ⌝ }
 {
-    x as u32
+    b as u32
 }
 
 pub fn read_edition(board: &[u8]) -> u32
     requires { ⌜ header ≤ length (now board) ⌝ }
     ensures { λ r. ⌜ r ≡ edition (now (board .entry)) ⌝ }
 {
-    (wide(board[0]) * 256 + wide(board[1])) * 65536 + (wide(board[2]) * 256 + wide(board[3]))
+    (as_u32(board[0]) * 256 + as_u32(board[1])) * 65536
+        + (as_u32(board[2]) * 256 + as_u32(board[3]))
 }
 
-pub fn write_edition(board: &mut [u8], n: u32)
+fn write_edition(board: &mut [u8], n: u32)
     requires { ⌜ header ≤ length (now board) ⌝ }
     ensures { λ _. ⌜ now (board .exit) ≡ withEdition n (now (board .entry)) ⌝ }
 {
@@ -119,6 +120,14 @@ pub fn next_edition(board: &mut [u8])
 }
 
 // ---- the whole board
+
+// The length of the board of a site with so many cells up to that horizon.
+pub fn length_of(cells: usize, horizon: usize) -> usize
+    requires { ⌜ (cells ≤ cellLimit) × (horizon ≤ horizonLimit) ⌝ }
+    ensures { λ r. ⌜ r ≡ header + cells * (horizon + 1) ⌝ }
+{
+    HEADER + cells * (horizon + 1)
+}
 
 // Sets every byte to 0.
 pub fn set_free(board: &mut [u8])
@@ -146,7 +155,7 @@ pub fn holder_stands(board: &[u8], h: u8) -> bool
 }
 
 // A byte after the holder h is withdrawn.
-fn wiped(x: u8, h: u8) -> u8
+fn withdrawn(x: u8, h: u8) -> u8
     ensures { λ r. ⌜ r ≡ cond (eqb x h) 0 x ⌝ }
 {
     if x == h {
@@ -162,7 +171,7 @@ pub fn clear_holder(board: &mut [u8], h: u8)
 {
     let mut i = HEADER;
     while i < board.len() {
-        board[i] = wiped(board[i], h);
+        board[i] = withdrawn(board[i], h);
         i += 1;
     }
 }

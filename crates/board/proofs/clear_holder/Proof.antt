@@ -20,11 +20,11 @@ abbrev μ-loop : tie.MeasureT-loop
 loop-holds : tie.Need-loop-holds Inv-loop μ-loop
 loop-holds c = search needs
 
-slice-read-wiped : tie.Need-slice-read-wiped Inv-loop μ-loop
-slice-read-wiped c = omega arith
+slice-read-withdrawn : tie.Need-slice-read-withdrawn Inv-loop μ-loop
+slice-read-withdrawn c = omega arith
 
-wiped-requires : tie.Need-wiped-requires Inv-loop μ-loop
-wiped-requires c κs = search needs
+withdrawn-requires : tie.Need-withdrawn-requires Inv-loop μ-loop
+withdrawn-requires c κs = search needs
 
 slice-write-board : tie.Need-slice-write-board Inv-loop μ-loop
 slice-write-board c = omega arith
@@ -40,7 +40,7 @@ loop-again c =
     let at-loop = c .before .before .before in (
       simp length-set (omega arith),
       simp length-set (at-loop .loop .inv .1),
-      sym (clear-next (at-loop .before .before .args .h) (at-loop .loop .i) _ (at-loop .loop .board) (omega arith) (c .wiped .ensures)) ∙ at-loop .loop .inv .2,
+      sym (clear-next (at-loop .before .before .args .h) (at-loop .loop .i) _ (at-loop .loop .board) (omega arith) (c .withdrawn .ensures)) ∙ at-loop .loop .inv .2,
     )
 
 same-length : tie.Need-same-length Inv-loop μ-loop
@@ -59,8 +59,8 @@ clear-holder-spec =
     Inv-loop
     μ-loop
     loop-holds
-    slice-read-wiped
-    wiped-requires
+    slice-read-withdrawn
+    withdrawn-requires
     slice-write-board
     add-i
     loop-less
