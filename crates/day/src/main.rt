@@ -1,7 +1,7 @@
 // The day program: the site from site.bin, an opened board, and a script from standard input, one line for each of its fields.
-// What a field comes to is proved in `script`; here bytes are read, handed over and printed.
+// What a field comes to is proved in `day_turns`; here bytes are read, handed over and printed.
+use day_results::Outcome;
 use day_turns::Opening;
-use day_turns::Outcome;
 use libc::STDIN_FILENO;
 use libc::STDOUT_FILENO;
 ghost use Prim.Native.Nat.{_≤_};
@@ -37,8 +37,14 @@ fn read_piece(piece: &mut [u8]) -> usize
     got + io::read_full(STDIN_FILENO, &mut piece[got..got + want])
 }
 
-// Reads a field, obeys it and prints its line.
-fn turn(file: &[u8], board: &mut [u8], out: &mut [u8], words: &mut [u32], light: usize) -> Outcome
+// Reads a field, performs its call and prints its line.
+fn run_turn(
+    file: &[u8],
+    board: &mut [u8],
+    out: &mut [u8],
+    words: &mut [u32],
+    light: usize,
+) -> Outcome
     requires { ⌜ Areas (length (now out)) (length (now words)) light ⌝ }
     requires { ⌜ header ≤ length (now board) ⌝ }
     ensures { λ r. ⌜ r .light ≤ dayArea ⌝ }
@@ -46,13 +52,13 @@ fn turn(file: &[u8], board: &mut [u8], out: &mut [u8], words: &mut [u32], light:
     let mut piece = [0u8; 10];
     let n = read_piece(&mut piece);
     let mut line = [0u8; 64];
-    let turn = day_turns::turn(file, board, out, words, light, &piece[..n], &mut line);
-    io::write_all(STDOUT_FILENO, &line[..turn.text]);
-    turn
+    let done = day_turns::turn(file, board, out, words, light, &piece[..n], &mut line);
+    io::write_all(STDOUT_FILENO, &line[..done.text]);
+    done
 }
 
 // Nothing says that the input ends, so the loop counts its turns down from a number that no run uses up.
-fn run(file: &[u8], board: &mut [u8], out: &mut [u8], words: &mut [u32])
+fn run_turns(file: &[u8], board: &mut [u8], out: &mut [u8], words: &mut [u32])
     requires { ⌜ Areas (length (now out)) (length (now words)) 0 ⌝ }
     requires { ⌜ header ≤ length (now board) ⌝ }
 {
@@ -60,7 +66,7 @@ fn run(file: &[u8], board: &mut [u8], out: &mut [u8], words: &mut [u32])
     let mut going = true;
     let mut turns = u64::MAX;
     while going && turns > 0 {
-        let done = turn(file, board, out, words, light);
+        let done = run_turn(file, board, out, words, light);
         light = done.light;
         going = done.going;
         turns -= 1;
@@ -75,14 +81,14 @@ fn refuse(number: u8) {
 }
 
 // The program, over areas that are lent to it.
-fn obey(file: &mut [u8], area: &mut [u8], out: &mut [u8], words: &mut [u32])
+fn run_day(file: &mut [u8], area: &mut [u8], out: &mut [u8], words: &mut [u32])
     requires { ⌜ length (now area) ≡ dayArea ⌝ }
     requires { ⌜ Areas (length (now out)) (length (now words)) 0 ⌝ }
 {
     let n = load(file);
     match day_turns::start(&file[..n], area) {
         Opening::Opened(size) => {
-            run(&file[..n], &mut area[..size], out, words);
+            run_turns(&file[..n], &mut area[..size], out, words);
         }
         Opening::Refused(number) => {
             refuse(number);
@@ -95,5 +101,5 @@ fn main() {
     let mut area = [0u8; 65536];
     let mut out = [0u8; 65536];
     let mut words = [0u32; 16384];
-    obey(&mut file, &mut area, &mut out, &mut words);
+    run_day(&mut file, &mut area, &mut out, &mut words);
 }

@@ -14,8 +14,9 @@ use Rattle.answers.specs.declared.Granted.the-variants as G
 use Rattle.answers.specs.Answers.{numberOf, answerOf, grantedNumber, grantedValues, grantedOf}
 use Rattle.answers.proofs.Laws.{answer-number}
 use Rattle.desk_route.proofs.Laws.{granted-number, granted-values}
-use Rattle.day_turns.specs.declared.Told.{Told}
-use Rattle.day_turns.specs.Turns.{changedTold, routedTold, dayAt, Performed}
+use Rattle.day_results.specs.declared.CallResult.{CallResult}
+use Rattle.day_results.specs.Results.{changedResult, routedResult}
+use Rattle.day_turns.specs.Turns.{dayAt, Performed}
 use Rattle.day_turns.proofs.AreaLaws.{Alike, areas-alike, route-board, no-light}
 
 -- a call of the day is one among areas of zeros
@@ -29,23 +30,23 @@ module _ (file board out : List ℕ) (light : ℕ) (c : Call) (b : BoardCall (li
   abbrev alone : Done
   alone = meant file (onBoard board) (listed c)
 
-  board-performed : (zeros words left : List ℕ) (x : Done) (a : Answer) (r : Told) → x ≡ meant file (lends board zeros words) (listed c)
-      → a ≡ answerOf (alone .number) → left ≡ alone .lent .board → r ≡ changedTold a light
+  board-performed : (zeros words left : List ℕ) (x : Done) (a : Answer) (r : CallResult) → x ≡ meant file (lends board zeros words) (listed c)
+      → a ≡ answerOf (alone .number) → left ≡ alone .lent .board → r ≡ changedResult a light
       → (r .number ≡ x .number) × ((r .arrival ≡ arrivalOf (x .values)) × (dayAt left out (r .light) ≡ dayAfter (dayAt board out light) x))
   board-performed zeros words left x a r e p q t =
       let same : x ≡ record { number = alone .number; values = []; lent = lends (alone .lent .board) zeros words } = e ∙ board-alone file board zeros words (listed c) b in (
-        ap (λ (k : Told). k .number) t ∙ ap numberOf p ∙ answer-number (alone .number) ∙ sym (ap (λ (d : Done). d .number) same),
+        ap (λ (k : CallResult). k .number) t ∙ ap numberOf p ∙ answer-number (alone .number) ∙ sym (ap (λ (d : Done). d .number) same),
         (
-          ap (λ (k : Told). k .arrival) t ∙ sym (ap (λ (d : Done). arrivalOf (d .values)) same),
-          ap₂ (λ (l : List ℕ) (n : ℕ). dayAt l out n) q (ap (λ (k : Told). k .light) t) ∙ sym (ap (dayAfter (dayAt board out light)) same),
+          ap (λ (k : CallResult). k .arrival) t ∙ sym (ap (λ (d : Done). arrivalOf (d .values)) same),
+          ap₂ (λ (l : List ℕ) (n : ℕ). dayAt l out n) q (ap (λ (k : CallResult). k .light) t) ∙ sym (ap (dayAfter (dayAt board out light)) same),
         ),
       )
 
-  pub changed-performed : (k : Call) (left : List ℕ) (a : Answer) (r : Told) → k ≡ c → a ≡ answerOf (alone .number) → left ≡ alone .lent .board → r ≡ changedTold a light
+  pub changed-performed : (k : Call) (left : List ℕ) (a : Answer) (r : CallResult) → k ≡ c → a ≡ answerOf (alone .number) → left ≡ alone .lent .board → r ≡ changedResult a light
       → light ≤ dayArea → Performed file (dayAt board out light) k r (dayAt left out (r .light)) × (r .light ≤ dayArea)
   changed-performed k left a r e p q t few =
       let (number, (arrival, day)) = board-performed (replicate dayArea 0) (replicate dayWords 0) left _ a r (day-done file (dayAt board out light) c) p q t in
-      (rw e (record { number = number; arrival = arrival; day = day }), rw (ap (λ (x : Told). x .light) t) few)
+      (rw e (record { number = number; arrival = arrival; day = day }), rw (ap (λ (x : CallResult). x .light) t) few)
 
 -- ---- a route
 
@@ -85,26 +86,26 @@ module _ (file board out words : List ℕ) (light tug start tick goal : ℕ) (si
     last-light : lastLight (d .light) left (grantedValues g) ≡ lastLight (d .light) (dayDone file d call .lent .out) (dayDone file d call .values)
     last-light = ap₂ (lastLight (d .light)) written values ∙ alike .light (d .light)
 
-  told-number : (g : Granted) → routedTold g light .number ≡ grantedNumber g
-  told-number (G.Granted len at) = refl
-  told-number (G.Refused n) = refl
+  result-number : (g : Granted) → routedResult g light .number ≡ grantedNumber g
+  result-number (G.Granted len at) = refl
+  result-number (G.Refused n) = refl
 
-  told-arrival : (g : Granted) → routedTold g light .arrival ≡ arrivalOf (grantedValues g)
-  told-arrival (G.Granted len at) = refl
-  told-arrival (G.Refused n) = refl
+  result-arrival : (g : Granted) → routedResult g light .arrival ≡ arrivalOf (grantedValues g)
+  result-arrival (G.Granted len at) = refl
+  result-arrival (G.Refused n) = refl
 
   -- a refused route left the output area, and in it the last light
-  told-light : (g : Granted) (left : List ℕ) → (grantedValues g ≡ [] → left ≡ out) → take (routedTold g light .light) left ≡ lastLight (d .light) left (grantedValues g)
-  told-light (G.Granted len at) left kept = refl
-  told-light (G.Refused n) left kept = ap (take light) (kept refl)
+  result-light : (g : Granted) (left : List ℕ) → (grantedValues g ≡ [] → left ≡ out) → take (routedResult g light .light) left ≡ lastLight (d .light) left (grantedValues g)
+  result-light (G.Granted len at) left kept = refl
+  result-light (G.Refused n) left kept = ap (take light) (kept refl)
 
-  pub routed-performed : (k : Call) (g : Granted) (left : List ℕ) (r : Told) → k ≡ call → g ≡ grantedOf is → left ≡ is .lent .out → r ≡ routedTold g light
+  pub routed-performed : (k : Call) (g : Granted) (left : List ℕ) (r : CallResult) → k ≡ call → g ≡ grantedOf is → left ≡ is .lent .out → r ≡ routedResult g light
       → Performed file d k r (dayAt board left (r .light))
   routed-performed k g left r e p q t =
       let kept : grantedValues g ≡ [] → left ≡ out = λ z. q ∙ no-light lent tug (record { state = start; tick = tick }) goal file (sym (values g left p q) ∙ z) in
       rw (e, t)
       (record {
-        number = told-number g ∙ number g left p q;
-        arrival = told-arrival g ∙ arrival g left p q;
-        day = ap₂ (λ (b l : List ℕ). record { board = b; light = l }) same-board (told-light g left kept ∙ last-light g left p q);
+        number = result-number g ∙ number g left p q;
+        arrival = result-arrival g ∙ arrival g left p q;
+        day = ap₂ (λ (b l : List ℕ). record { board = b; light = l }) same-board (result-light g left kept ∙ last-light g left p q);
       })

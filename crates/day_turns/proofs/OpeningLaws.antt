@@ -1,63 +1,27 @@
--- Laws of the opening: how much of an area the board takes, and that a board is opened whatever its bytes were.
+-- Laws of the opening: a board is opened whatever its bytes were.
 -- Assumes nothing.
-use Prim.Native.Nat.{ℕ, zero, suc, _+_, _*_, _≤_, _<_, min}
+use Prim.Native.Nat.{ℕ, zero, suc, min}
 use native.Mathlib.Omega.{arith}
-use native.Mathlib.Nat.{min-eq-left, min-eq-right}
 use mathlib.Core.Path.{_≡_, refl, sym, ap, _∙_}
 use mathlib.Core.Bool.{not}
 use mathlib.Core.List.{List, [], _∷_, _++_}
 use lib.Dec.{eqb}
 use lib.ListN.{length, take, drop, replicate, length-take, length-append, length-replicate}
 use lib.Seq.{take-at}
-use Rattle.meaning.specs.Limits.{dayArea, header}
-use Rattle.meaning.specs.Answers.{_if_, lowest, accepted, refused}
-use Rattle.meaning.specs.Site.{siteOf, siteRefusals, readSite}
+use Rattle.meaning.specs.Limits.{dayArea}
+use Rattle.meaning.specs.Answers.{_if_, lowest}
+use Rattle.meaning.specs.Site.{siteOf, siteRefusals}
 use Rattle.meaning.specs.Board.{boardLength}
 use Rattle.meaning.specs.Calls.{opening, onBoard, refusals, Done, acceptedDone, meant}
 use Rattle.meaning.specs.Day.{dayBoard}
 use Rattle.meaning.proofs.AnswersLaws.{Passed, lowest-clear}
-use Rattle.meaning.proofs.SiteLaws.{site-read, read-well}
 use Rattle.meaning.proofs.CallLaws as CallLaws
 use Rattle.meaning.proofs.CheckLaws.{site-refused}
-use Rattle.site.specs.Check.{checkOf, sizesOf}
-use Rattle.site.specs.declared.Sizes.{Sizes}
-use Rattle.site.specs.declared.Check.the-variants as Check
-use Rattle.site.proofs.Accepted.{accepted-read, accepted-layout, refused-read}
-use Rattle.checks.proofs.Laws.{size-small}
 use Rattle.answers.specs.declared.Answer.the-variants as A
 use Rattle.answers.specs.Answers.{numberOf, answerOf}
 use Rattle.answers.proofs.Laws.{answer-number}
 use Rattle.day_turns.specs.declared.Opening.the-variants.{Opened, Refused}
 use Rattle.day_turns.specs.Turns.{startBy, Opens}
-
--- ---- how much the board takes
-
-module _ (file : List ℕ) (l : Sizes) (e : Check.Passed l ≡ checkOf (readSite file)) where
-  said : l ≡ sizesOf (siteOf file)
-  said = accepted-layout file l e
-
-  pub short : l .horizon ≤ 1000
-  short = rw said (read-well file _ (accepted-read file l e) .horizon-range .1)
-
-  pub small : l .cells * (l .horizon + 1) ≤ 256256
-  small =
-      let few : l .cells ≤ 255 = rw said (read-well file _ (accepted-read file l e) .cells-range .1) in
-      size-small (l .cells) (l .horizon) (omega arith) short
-
-  board-size : boardLength (siteOf file) ≡ header + l .cells * (l .horizon + 1)
-  board-size = sym (ap (λ (k : Sizes). header + k .cells * (k .horizon + 1)) said)
-
-  -- all of the area, or a part of it
-  pub takes-all : (room : ℕ) → room < header + l .cells * (l .horizon + 1) → room ≡ min (boardLength (siteOf file)) room
-  takes-all room h = rw board-size (sym (min-eq-right (omega arith)))
-
-  pub takes-part : (room : ℕ) → header + l .cells * (l .horizon + 1) ≤ room → header + l .cells * (l .horizon + 1) ≡ min (boardLength (siteOf file)) room
-  takes-part room h = rw board-size (sym (min-eq-left h))
-
-pub not-read : (file : List ℕ) (n : ℕ) → Check.Refused n ≡ checkOf (readSite file) → lowest (siteRefusals file) ≡ 0 → ⊥
-not-read file n e z =
-    let no : accepted (siteOf file) ≡ refused n = sym (site-read file z) ∙ refused-read file n e in
-    let y : _≡_ {A = ℕ} 0 1 = cc in omega arith
 
 -- ---- the number
 

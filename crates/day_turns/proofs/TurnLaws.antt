@@ -17,16 +17,17 @@ use Rattle.day_orders.specs.declared.Order.{Order}
 use Rattle.day_orders.specs.declared.Entry.the-variants.{Call, Bad, End}
 use Rattle.day_orders.specs.Orders.{entryOf, callBy, entryCall}
 use Rattle.day_orders.proofs.Laws.{entry-call, not-end}
-use Rattle.day_turns.specs.declared.Told.{Told}
-use Rattle.day_turns.specs.declared.Outcome.{Outcome}
-use Rattle.day_turns.specs.Turns.{dayAt, Performed, Obeyed, dayIf, lastTurn, Turned}
+use Rattle.day_results.specs.declared.CallResult.{CallResult}
+use Rattle.day_results.specs.declared.Outcome.{Outcome}
+use Rattle.day_results.specs.Results.{lastTurn}
+use Rattle.day_turns.specs.Turns.{dayAt, Performed, LineWritten, dayIf, Turned}
 
 -- a call that was performed, with the line that is written after it
-pub obeyed : (file : List ℕ) (d after : Day) (c : C.Call) (told : Told) (e text : ℕ) (line : List ℕ)
-    → Performed file d c told after → told .light ≤ dayArea → e ≡ edition (after .board)
-    → Counts text line → take text line ≡ textOf (record { number = told .number; edition = e; arrival = told .arrival })
-    → Obeyed file d c (record { going = true; light = told .light; text = text }) line after
-obeyed file d after c told e text line p few same n w = record {
+pub line-written : (file : List ℕ) (d after : Day) (c : C.Call) (r : CallResult) (e text : ℕ) (line : List ℕ)
+    → Performed file d c r after → r .light ≤ dayArea → e ≡ edition (after .board)
+    → Counts text line → take text line ≡ textOf (record { number = r .number; edition = e; arrival = r .arrival })
+    → LineWritten file d c (record { going = true; light = r .light; text = text }) line after
+line-written file d after c r e text line p few same n w = record {
   going = refl;
   few = few;
   counted = n;
@@ -36,12 +37,12 @@ obeyed file d after c told e text line p few same n w = record {
 
 module _ (file : List ℕ) (d : Day) (line : List ℕ) where
   -- a field that is a call
-  by-call : (o : Option C.Call) (c : C.Call) (r : Outcome) (after : Day) → o ≡ some c → Obeyed file d c r line after
+  by-call : (o : Option C.Call) (c : C.Call) (r : Outcome) (after : Day) → o ≡ some c → LineWritten file d c r line after
       → (take (r .text) line ≡ texts (lineThen file d o (λ (d′ : Day). []))) × (dayIf (r .going) after ≡ dayBy file d o)
   by-call o c r after e b =
       rw e (b .text ∙ sym (append-nil (textOf (lineOf (dayDone file d c)))), ap (λ (g : Bool). dayIf g after) (b .going) ∙ ap some (b .day))
 
-  pub turned-call : (fs : Fields) (o : Order) (r : Outcome) (after : Day) → Call o ≡ entryOf fs → Obeyed file d (callBy (d .light) o) r line after → Turned file fs d r line after
+  pub turned-call : (fs : Fields) (o : Order) (r : Outcome) (after : Day) → Call o ≡ entryOf fs → LineWritten file d (callBy (d .light) o) r line after → Turned file fs d r line after
   turned-call end o r after e b = absurd (let y : _≡_ {A = ℕ} 0 1 = cc in omega arith)
   turned-call cut o r after e b = absurd (let y : _≡_ {A = ℕ} 0 1 = cc in omega arith)
   turned-call (next f fs) o r after e b =

@@ -1,4 +1,4 @@
--- A turn of the day program: what a call told, the day as the code holds it, and how the board is opened.
+-- A turn of the day program: the day as the code holds it, a call on it, its line, and how the board is opened.
 -- Assumes nothing.
 use Prim.Native.Nat.{ℕ, zero, suc, _≤_}
 use mathlib.Core.Path.{_≡_}
@@ -11,12 +11,8 @@ use Rattle.meaning.specs.Limits.{header, dayArea, dayWords}
 use Rattle.meaning.specs.Fields.{Fields}
 use Rattle.meaning.specs.Calls.{Call}
 use Rattle.meaning.specs.Day.{Day, dayDone, arrivalOf, lineOf, dayAfter, textOf, texts, lineNext, dayNext}
-use Rattle.answers.specs.declared.Answer.{Answer}
-use Rattle.answers.specs.declared.Granted.{Granted}
-use Rattle.answers.specs.declared.Granted.the-variants as G
-use Rattle.answers.specs.Answers.{numberOf}
-use Rattle.day_turns.specs.declared.Told.{Told}
-use Rattle.day_turns.specs.declared.Outcome.{Outcome}
+use Rattle.day_results.specs.declared.CallResult.{CallResult}
+use Rattle.day_results.specs.declared.Outcome.{Outcome}
 use Rattle.day_turns.specs.declared.Opening.{Opening}
 use Rattle.day_turns.specs.declared.Opening.the-variants.{Opened, Refused}
 
@@ -30,19 +26,12 @@ pub record Areas (out words light : ℕ) : Type 0 where
 
 -- ---- a call
 
-abbrev pub changedTold : Answer → ℕ → Told
-changedTold a light = record { number = numberOf a; arrival = 0; light = light }
-
-abbrev pub routedTold : Granted → ℕ → Told
-routedTold (G.Granted len arrival) light = record { number = 0; arrival = arrival; light = len }
-routedTold (G.Refused n) light = record { number = n; arrival = 0; light = light }
-
 -- the last granted light is the front of the output area
 abbrev pub dayAt : List ℕ → List ℕ → ℕ → Day
 dayAt board out light = record { board = board; light = take light out }
 
--- a call on the day d told r and left the day after
-pub record Performed (file : List ℕ) (d : Day) (c : Call) (r : Told) (after : Day) : Type 0 where
+-- a call on the day d had the result r and left the day after
+pub record Performed (file : List ℕ) (d : Day) (c : Call) (r : CallResult) (after : Day) : Type 0 where
   pub number : r .number ≡ dayDone file d c .number
   pub arrival : r .arrival ≡ arrivalOf (dayDone file d c .values)
   pub day : after ≡ dayAfter d (dayDone file d c)
@@ -50,7 +39,7 @@ pub record Performed (file : List ℕ) (d : Day) (c : Call) (r : Told) (after : 
 -- ---- a turn
 
 -- the call's line is written, and the program goes on
-pub record Obeyed (file : List ℕ) (d : Day) (c : Call) (r : Outcome) (line : List ℕ) (after : Day) : Type 0 where
+pub record LineWritten (file : List ℕ) (d : Day) (c : Call) (r : Outcome) (line : List ℕ) (after : Day) : Type 0 where
   pub going : r .going ≡ true
   pub few : r .light ≤ dayArea
   pub counted : Counts (r .text) line
@@ -61,10 +50,6 @@ pub record Obeyed (file : List ℕ) (d : Day) (c : Call) (r : Outcome) (line : L
 abbrev pub dayIf : Bool → Day → Option Day
 dayIf true d = some d
 dayIf false d = none
-
--- the outcome of a turn after which the program ends
-abbrev pub lastTurn : ℕ → ℕ → Outcome
-lastTurn light text = record { going = false; light = light; text = text }
 
 -- a turn over the fields fs, on the day d, wrote the turn's line and left the day after
 pub record Turned (file : List ℕ) (fs : Fields) (d : Day) (r : Outcome) (line : List ℕ) (after : Day) : Type 0 where

@@ -14,8 +14,8 @@ read-entry-requires c κs = search needs
 enum-known-o : tie.Need-enum-known-o
 enum-known-o c = search needs
 
-obey-requires : tie.Need-obey-requires
-obey-requires c κs = search needs
+perform-line-requires : tie.Need-perform-line-requires
+perform-line-requires c κs = search needs
 
 enum-told : tie.Need-enum-told
 enum-told c = search needs
@@ -47,7 +47,7 @@ returns c =
     let at = called .before .before .before .before .before .before in
     let a = at .before .before .before .before .before .before .before .before .args in
     turned-call (a .file .now) (dayAt (a .board .now) (a .out .now) (a .light)) _ (fields (a .bytes .now)) _ _ _
-    (sym (at .o .given .1) ∙ at .before .before .read-entry .ensures) (called .obey .ensures)
+    (sym (at .o .given .1) ∙ at .before .before .read-entry .ensures) (called .perform-line .ensures)
 
 returns-2 : tie.Need-returns-2
 returns-2 c =
@@ -71,7 +71,7 @@ turn-spec =
     (tie.spec
     read-entry-requires
     enum-known-o
-    obey-requires
+    perform-line-requires
     enum-told
     write-line-requires
     ended-requires

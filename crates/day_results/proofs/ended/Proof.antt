@@ -1,8 +1,8 @@
--- `day_turns::ended` meets its contract.
+-- `day_results::ended` meets its contract.
 -- Assumes nothing.
 use mathlib.Core.Path.{refl}
-use Rattle.day_turns.proofs.ended.Statement.{statement}
-use Rattle.day_turns.proofs.ended.Tie as tie
+use Rattle.day_results.proofs.ended.Statement.{statement}
+use Rattle.day_results.proofs.ended.Tie as tie
 
 returns : tie.Need-returns
 returns c = refl

@@ -1,10 +1,10 @@
--- `day_turns::obey` meets its contract.
+-- `day_turns::perform_line` meets its contract.
 -- Assumes nothing.
 use borrow.Author.Needs.{needs}
 use Rattle.day_turns.specs.Turns.{dayAt}
-use Rattle.day_turns.proofs.TurnLaws.{obeyed}
-use Rattle.day_turns.proofs.obey.Statement.{statement}
-use Rattle.day_turns.proofs.obey.Tie as tie
+use Rattle.day_turns.proofs.TurnLaws.{line-written}
+use Rattle.day_turns.proofs.perform_line.Statement.{statement}
+use Rattle.day_turns.proofs.perform_line.Tie as tie
 
 perform-requires : tie.Need-perform-requires
 perform-requires c κs = search needs
@@ -38,11 +38,11 @@ returns c =
     let read = c .before .before .before .before in
     let called = read .before .before .before .before .before .before .before .before in
     let a = called .before .before .before .before .before .before .before .before .args in
-    obeyed (a .file .now) (dayAt (a .board .now) (a .out .now) (a .light)) _ _ (called .perform .result) _ _ _
+    line-written (a .file .now) (dayAt (a .board .now) (a .out .now) (a .light)) _ _ (called .perform .result) _ _ _
     (called .perform .ensures .0) (called .perform .ensures .1) (read .read-edition .ensures) (c .write-line .ensures .0) (c .write-line .ensures .1)
 
-pub obey-spec : {M : Type 1} → statement M
-obey-spec =
+pub perform-line-spec : {M : Type 1} → statement M
+perform-line-spec =
     tie.close
     (tie.spec
     perform-requires

@@ -1,4 +1,4 @@
--- `day::obey` meets its contract: the board is the part of the area that was opened.
+-- `day::run_day` meets its contract: the board is the part of the area that was opened.
 -- Assumes nothing.
 use Prim.Native.Nat.{_≤_}
 use native.Mathlib.Omega.{arith}
@@ -7,8 +7,8 @@ use lib.ListN.{length, take}
 use lib.Seq.{length-take-le}
 use Rattle.meaning.specs.Limits.{header}
 use borrow.Author.Needs.{needs}
-use Rattle.day.proofs.obey.Statement.{statement}
-use Rattle.day.proofs.obey.Tie as tie
+use Rattle.day.proofs.run_day.Statement.{statement}
+use Rattle.day.proofs.run_day.Tie as tie
 
 load-requires : tie.Need-load-requires
 load-requires c κs = search needs
@@ -25,11 +25,11 @@ start-requires c κs = search needs
 enum-known-size : tie.Need-enum-known-size
 enum-known-size c = search needs
 
-slice-reshare-prefix-run : tie.Need-slice-reshare-prefix-run
-slice-reshare-prefix-run c = search needs
+slice-reshare-prefix-run-turns : tie.Need-slice-reshare-prefix-run-turns
+slice-reshare-prefix-run-turns c = search needs
 
-slice-aggregate-run : tie.Need-slice-aggregate-run
-slice-aggregate-run c = search needs
+slice-aggregate-run-turns : tie.Need-slice-aggregate-run-turns
+slice-aggregate-run-turns c = search needs
 
 -- the board is the front of the area
 opened : (c : tie.After-size) → (header ≤ c .size .given .0 .0) × (c .size .given .0 .0 ≤ length (c .before .before .before .before .start .last .1 .0))
@@ -41,14 +41,14 @@ has-edition c =
     let size = length-take-le (c .size .given .0 .0) (c .before .before .before .before .start .last .1 .0) inside in
     omega arith
 
-slice-relend-prefix-run : tie.Need-slice-relend-prefix-run
-slice-relend-prefix-run c = opened (c .before .before) .1
+slice-relend-prefix-run-turns : tie.Need-slice-relend-prefix-run-turns
+slice-relend-prefix-run-turns c = opened (c .before .before) .1
 
-slice-aggregate-run-2 : tie.Need-slice-aggregate-run-2
-slice-aggregate-run-2 c = sym (length-take-le _ _ (opened (c .before .before .before) .1))
+slice-aggregate-run-turns-2 : tie.Need-slice-aggregate-run-turns-2
+slice-aggregate-run-turns-2 c = sym (length-take-le _ _ (opened (c .before .before .before) .1))
 
-run-requires : tie.Need-run-requires
-run-requires c κs = (c .before .before .before .before .before .before .before .before .before .before .before .before .before .before .before .before .before .before .before .before .pre .1, has-edition (c .before .before .before .before .before))
+run-turns-requires : tie.Need-run-turns-requires
+run-turns-requires c κs = (c .before .before .before .before .before .before .before .before .before .before .before .before .before .before .before .before .before .before .before .before .pre .1, has-edition (c .before .before .before .before .before))
 
 enum-known-number : tie.Need-enum-known-number
 enum-known-number c = search needs
@@ -80,8 +80,8 @@ same-length-6 c = search needs
 returns-2 : tie.Need-returns-2
 returns-2 c = search needs
 
-pub obey-spec : {M : Type 1} → statement M
-obey-spec =
+pub run-day-spec : {M : Type 1} → statement M
+run-day-spec =
     tie.close
     (tie.spec
     load-requires
@@ -89,11 +89,11 @@ obey-spec =
     slice-aggregate-start
     start-requires
     enum-known-size
-    slice-reshare-prefix-run
-    slice-aggregate-run
-    slice-relend-prefix-run
-    slice-aggregate-run-2
-    run-requires
+    slice-reshare-prefix-run-turns
+    slice-aggregate-run-turns
+    slice-relend-prefix-run-turns
+    slice-aggregate-run-turns-2
+    run-turns-requires
     enum-known-number
     refuse-requires
     same-length

@@ -1,8 +1,8 @@
--- `day::turn` meets its contract: what the turn asks of the areas is asked here too.
+-- `day::run_turn` meets its contract: what the turn asks of the areas is asked here too.
 -- Assumes nothing.
 use borrow.Author.Needs.{needs}
-use Rattle.day.proofs.turn.Statement.{statement}
-use Rattle.day.proofs.turn.Tie as tie
+use Rattle.day.proofs.run_turn.Statement.{statement}
+use Rattle.day.proofs.run_turn.Tie as tie
 
 slice-aggregate-read-piece : tie.Need-slice-aggregate-read-piece
 slice-aggregate-read-piece c = search needs
@@ -40,8 +40,8 @@ same-length-3 c = search needs
 returns : tie.Need-returns
 returns c = c .before .before .before .before .before .before .before .before .turn .ensures .few
 
-pub turn-spec : {M : Type 1} → statement M
-turn-spec =
+pub run-turn-spec : {M : Type 1} → statement M
+run-turn-spec =
     tie.close
     (tie.spec
     slice-aggregate-read-piece

@@ -1,4 +1,4 @@
--- `day::run` meets its contract: the areas keep their lengths, and the number of turns falls.
+-- `day::run_turns` meets its contract: the areas keep their lengths, and the number of turns falls.
 -- Assumes nothing.
 use Prim.Native.Nat.{_≤_}
 use native.Mathlib.Omega.{arith}
@@ -8,8 +8,8 @@ use borrow.Author.Tests.{leb-true}
 use Rattle.meaning.specs.Limits.{dayArea}
 use borrow.Author.Needs.{needs}
 use native.Mathlib.Omega.{arith}
-use Rattle.day.proofs.run.Statement.{statement}
-use Rattle.day.proofs.run.Tie as tie
+use Rattle.day.proofs.run_turns.Statement.{statement}
+use Rattle.day.proofs.run_turns.Tie as tie
 
 abbrev Inv-loop : tie.InvT-loop
 Inv-loop file board₀ out₀ words₀ light₀ going₀ turns₀ board out words light going turns =
@@ -21,8 +21,8 @@ abbrev μ-loop : tie.MeasureT-loop
 loop-holds : tie.Need-loop-holds Inv-loop μ-loop
 loop-holds c = search needs
 
-turn-requires : tie.Need-turn-requires Inv-loop μ-loop
-turn-requires c κs = search needs
+run-turn-requires : tie.Need-run-turn-requires Inv-loop μ-loop
+run-turn-requires c κs = search needs
 
 sub-turns : tie.Need-sub-turns Inv-loop μ-loop
 sub-turns c = search needs
@@ -57,14 +57,14 @@ same-length-6 c = search needs
 returns-2 : tie.Need-returns-2 Inv-loop μ-loop
 returns-2 c = search needs
 
-pub run-spec : {M : Type 1} → statement M
-run-spec =
+pub run-turns-spec : {M : Type 1} → statement M
+run-turns-spec =
     tie.close
     (tie.spec
     Inv-loop
     μ-loop
     loop-holds
-    turn-requires
+    run-turn-requires
     sub-turns
     loop-less
     loop-again
