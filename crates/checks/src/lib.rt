@@ -5,7 +5,7 @@ ghost use mathlib.Core.Path.{_≡_};
 ghost use Prim.Native.Nat.{ℕ, _+_, _*_, _≤_, _<_};
 ghost use mathlib.Core.List.{List, []};
 ghost use lib.ListN.{length};
-ghost use Rattle.meaning.specs.Limits.{horizonLimit, lastEdition, header};
+ghost use Rattle.meaning.specs.Limits.{cellLimit, horizonLimit, lastEdition, header};
 ghost use Rattle.meaning.specs.Answers.{lowest};
 ghost use Rattle.meaning.specs.Site.{Site, siteOf};
 ghost use Rattle.meaning.specs.Board.{edition};
@@ -29,11 +29,11 @@ pub fn by_number(l: Sizes, n: u8) -> Check
 // ---- numbers 1 to 7: all the checks of open
 
 // The length of a board of so many cells up to that horizon.
-fn board_length(cells: u8, horizon: usize) -> usize
-    requires { ⌜ horizon ≤ horizonLimit ⌝ }
+fn board_length(cells: usize, horizon: usize) -> usize
+    requires { ⌜ (cells ≤ cellLimit) × (horizon ≤ horizonLimit) ⌝ }
     ensures { λ r. ⌜ r ≡ header + cells * (horizon + 1) ⌝ }
 {
-    4 + (cells as usize) * (horizon + 1)
+    4 + cells * (horizon + 1)
 }
 
 // The checks 1 to 7, which every call makes first.
@@ -58,7 +58,7 @@ fn interval_later(l: Sizes, cell: u16, room: usize) -> u8
     requires { ⌜ l .horizon ≤ horizonLimit ⌝ }
     ensures { λ r. ⌜ ((site : Site) (areas : Room) → Says l site → areas .out ≡ room → r ≡ lowest (intervalRefusals site areas cell)) ⌝ }
 {
-    if (l.cells as u16) <= cell {
+    if l.cells <= cell as usize {
         return 10;
     }
     if room < l.horizon + 2 {
@@ -83,7 +83,7 @@ pub fn check_interval(file: &[u8], board: &[u8], cell: u16, room: usize) -> Chec
 fn run_named(l: Sizes, cell: u16, first: u16, last: u16) -> bool
     ensures { λ r. ⌜ ((site : Site) → Says l site → r ≡ runNamed site cell first last) ⌝ }
 {
-    if (l.cells as u16) <= cell {
+    if l.cells <= cell as usize {
         return false;
     }
     if l.horizon < (first as usize) {

@@ -44,12 +44,7 @@ fn start_free(file: &[u8], board: &[u8], sizes: Sizes, a: Node) -> bool
     }
     if plan_steps::in_time(a.tick, sizes) {
         let cell = site::state_cell(file, state);
-        board::is_free(
-            board,
-            sizes.horizon,
-            cell as usize,
-            plan_steps::plain(a.tick),
-        )
+        board::is_free(board, sizes.horizon, cell, plan_steps::plain(a.tick))
     } else {
         false
     }

@@ -18,7 +18,7 @@ use Rattle.meaning.proofs.BasicsLaws.{every-at, when-test, when-value}
 use Rattle.meaning.proofs.BoardLaws.{mark-append, length-mark}
 use Rattle.site_sweeps.specs.Places.{sweepAt, sweepsAt, SweepIs}
 use Rattle.site_sweeps.specs.declared.Sweep as ReadSweep
-use Rattle.site_sweeps.proofs.Laws.{sweeps-none, sweeps-next}
+use Rattle.site_sweeps.proofs.Laws.{restAt, rest-whole, rest-none, rest-next}
 use Rattle.light_read.specs.Steps.{headOf, laidFrom, stepsFrom}
 use Rattle.light_read.specs.declared.Head.{Head}
 use Rattle.light_read.proofs.HeadLaws.{accepted}
@@ -38,30 +38,21 @@ keep e r = record { read = r .read; sizes = r .sizes; board = e ∙ r .board }
 -- ---- a motion's sweeps from the number i on
 
 module _ (site : Site) (h : ℕ) (file : List ℕ) (at n t : ℕ) where
-  pub swept-all : (board : List ℕ) → mark site h (sweptPairs (sweepsAt file (at + 3 * 0) (n - 0)) t) board ≡ mark site h (sweptPairs (sweepsAt file at n) t) board
-  swept-all board =
-      let place : at + 3 * 0 ≡ at = omega arith in
-      let left : n - 0 ≡ n = omega arith in
-      ap₂ (λ (x y : ℕ). mark site h (sweptPairs (sweepsAt file x y) t) board) place left
+  pub swept-all : (board : List ℕ) → mark site h (sweptPairs (restAt file at n 0) t) board ≡ mark site h (sweptPairs (sweepsAt file at n) t) board
+  swept-all board = ap (λ (ws : List Sweep). mark site h (sweptPairs ws t) board) (rest-whole file at n)
 
   pub swept-next : (i : ℕ) (w : ReadSweep.Sweep) (board new : List ℕ) → i < n → at + 3 * n ≤ length file → SweepIs (sweepAt file (at + 3 * i)) w
       → new ≡ mark site h (runTo (w .cell) (t + w .first) (t + w .last)) board
-      → mark site h (sweptPairs (sweepsAt file (at + 3 * i) (n - i)) t) board ≡ mark site h (sweptPairs (sweepsAt file (at + 3 * (i + 1)) (n - (i + 1))) t) new
+      → mark site h (sweptPairs (restAt file at n i) t) board ≡ mark site h (sweptPairs (restAt file at n (i + 1)) t) new
   swept-next i w board new lt inside u e =
-      let v = sweepAt file (at + 3 * i) in
-      let place : at + 3 * i + 3 ≡ at + 3 * (i + 1) = omega arith in
-      let left : n - i - 1 ≡ n - (i + 1) = omega arith in
-      let same : runTo (v .cell) (t + v .first) (t + v .last) ≡ runTo (w .cell) (t + w .first) (t + w .last) =
-      λ j. runTo (sym (u .cell) j) (t + sym (u .first) j) (t + sym (u .last) j) in
-      let ps = runTo (v .cell) (t + v .first) (t + v .last) in
-      let ws = sweepsAt file (at + 3 * i + 3) (n - i - 1) in
-      ap (λ (x : List Sweep). mark site h (sweptPairs x t) board) (sweeps-next file (at + 3 * i) (n - i) (omega arith) (omega arith))
-      ∙ mark-append site h ps (sweptPairs ws t) board
-      ∙ ap (mark site h (sweptPairs ws t)) (ap (λ (x : List Pair). mark site h x board) same ∙ sym e)
-      ∙ ap₂ (λ (x y : ℕ). mark site h (sweptPairs (sweepsAt file x y) t) new) place left
+      let ps : Sweep → List Pair = λ v. runTo (v .cell) (t + v .first) (t + v .last) in
+      let ws = restAt file at n (i + 1) in
+      ap (λ (x : List Sweep). mark site h (sweptPairs x t) board) (rest-next file at n i lt inside)
+      ∙ mark-append site h (ps (sweepAt file (at + 3 * i))) (sweptPairs ws t) board
+      ∙ ap (mark site h (sweptPairs ws t)) (ap (λ (v : Sweep). mark site h (ps v) board) (sym (u .same)) ∙ sym e)
 
-  pub swept-end : (i : ℕ) (board : List ℕ) → n ≤ i → mark site h (sweptPairs (sweepsAt file (at + 3 * i) (n - i)) t) board ≡ board
-  swept-end i board le = ap (λ (x : List Sweep). mark site h (sweptPairs x t) board) (sweeps-none file (at + 3 * i) (n - i) (omega arith))
+  pub swept-end : (i : ℕ) (board : List ℕ) → n ≤ i → mark site h (sweptPairs (restAt file at n i) t) board ≡ board
+  swept-end i board le = ap (λ (x : List Sweep). mark site h (sweptPairs x t) board) (rest-none file at n i le)
 
 -- ---- a light's steps from a place on
 

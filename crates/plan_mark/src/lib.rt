@@ -32,7 +32,7 @@ fn mark_sweep(file: &[u8], board: &mut [u8], sizes: Sizes, w: Sweep, t: Tick, tu
     board::mark_run(
         board,
         sizes.horizon,
-        w.cell as usize,
+        w.cell,
         plan_steps::plain(first),
         plan_steps::plain(last),
         tug,
@@ -71,7 +71,7 @@ fn mark_wait(file: &[u8], board: &mut [u8], sizes: Sizes, a: Node, n: Span, tug:
     board::mark_run(
         board,
         sizes.horizon,
-        cell as usize,
+        cell,
         plan_steps::plain(a.tick),
         plan_steps::plain(last),
         tug,

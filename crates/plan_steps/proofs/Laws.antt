@@ -19,7 +19,7 @@ use borrow.Author.Tests.{leb-true, ltb-true}
 use Rattle.site_layout.specs.Laid.{Laid}
 use Rattle.site_sweeps.specs.Places.{sweepAt, sweepsAt, SweepIs}
 use Rattle.site_sweeps.specs.declared.Sweep as ReadSweep
-use Rattle.site_sweeps.proofs.Laws.{sweeps-length, sweeps-at, all-none, all-hit, all-miss}
+use Rattle.site_sweeps.proofs.Laws.{sweeps-length, sweeps-at}
 use Rattle.site.specs.declared.Sizes.{Sizes}
 use Rattle.site.specs.declared.Motion as ReadMotion
 use Rattle.site.specs.Motions.{MotionIs}
@@ -73,35 +73,11 @@ read-motion {file} {k = k} {m = m} r h s =
       to = omega arith;
     }
 
--- ---- a motion's sweeps from the number i on
-
-module _ (p : Sweep → Bool) (file : List ℕ) (at n i : ℕ) where
-  pub rest-end : n ≤ i → all p (sweepsAt file (at + 3 * i) (n - i)) ≡ true
-  rest-end h = all-none p file (at + 3 * i) (n - i) (omega arith)
-
-  pub rest-miss : i < n → at + 3 * n ≤ length file → p (sweepAt file (at + 3 * i)) ≡ false → all p (sweepsAt file (at + 3 * i) (n - i)) ≡ false
-  rest-miss h r e = all-miss p file (at + 3 * i) (n - i) (omega arith) (omega arith) e
-
-  pub rest-hit : i < n → at + 3 * n ≤ length file → p (sweepAt file (at + 3 * i)) ≡ true
-      → all p (sweepsAt file (at + 3 * i) (n - i)) ≡ all p (sweepsAt file (at + 3 * (i + 1)) (n - (i + 1)))
-  rest-hit h r e =
-      let place : at + 3 * i + 3 ≡ at + 3 * (i + 1) = omega arith in
-      let left : n - i - 1 ≡ n - (i + 1) = omega arith in
-      all-hit p file (at + 3 * i) (n - i) (omega arith) (omega arith) e ∙ ap₂ (λ (x y : ℕ). all p (sweepsAt file x y)) place left
-
-pub rest-all : (p : Sweep → Bool) (file : List ℕ) (at n : ℕ) → all p (sweepsAt file (at + 3 * 0) (n - 0)) ≡ all p (sweepsAt file at n)
-rest-all p file at n =
-    let place : at + 3 * 0 ≡ at = omega arith in
-    let left : n - 0 ≡ n = omega arith in
-    ap₂ (λ (x y : ℕ). all p (sweepsAt file x y)) place left
+-- ---- a motion's sweeps
 
 -- the sweep's cell is free while a motion that starts at t uses it
 abbrev pub useFree : Free → ℕ → Sweep → Bool
 useFree f t w = freeFromTo f (w .cell) (t + w .first) (t + w .last)
-
--- what is asked of the sweep that was read is what is asked of the one in the file
-pub use-free : (f : Free) (t : ℕ) (v : Sweep) (w : ReadSweep.Sweep) → SweepIs v w → useFree f t v ≡ freeFromTo f (w .cell) (t + w .first) (t + w .last)
-use-free f t v w u = λ i. freeFromTo f (sym (u .cell) i) (t + sym (u .first) i) (t + sym (u .last) i)
 
 -- each keeps to the cells and to the span, so it ends by the horizon where its motion does
 pub swept-at : (file : List ℕ) (at n d i t : ℕ) (w : ReadSweep.Sweep) → Sweeps file at n d → i < n → t + d ≤ siteOf file .horizon
@@ -113,11 +89,8 @@ swept-at file at n d i t w s h in-time u =
     let good : sweepGood cells d v ≡ true =
     subst (λ (x : Sweep). sweepGood cells d x ≡ true) (sweeps-at i n file at v h (s .inside))
     (all-at (sweepGood cells d) (sweepsAt file at n) v (s .good) i (omega arith)) in
-    let (a, b, c) = and-three (ltb (v .cell) cells) (leb (v .first) (v .last)) (leb (v .last) d) good in
-    let known : v .cell < cells = ltb-true _ _ a in
-    let order : v .first ≤ v .last = leb-true _ _ b in
-    let span : v .last ≤ d = leb-true _ _ c in
-    let e₀ = u .cell in
-    let e₁ = u .first in
-    let e₂ = u .last in
-    record { known = omega arith; order = omega arith; in-time = omega arith }
+    let (a, b, c) = and-three (ltb (w .cell) cells) (leb (w .first) (w .last)) (leb (w .last) d) (ap (sweepGood cells d) (u .same) ∙ good) in
+    let known : w .cell < cells = ltb-true _ _ a in
+    let order : w .first ≤ w .last = leb-true _ _ b in
+    let span : w .last ≤ d = leb-true _ _ c in
+    record { known = known; order = order; in-time = omega arith }

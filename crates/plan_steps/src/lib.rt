@@ -43,13 +43,7 @@ fn sweep_free(file: &[u8], board: &[u8], sizes: Sizes, w: Sweep, t: Tick) -> boo
 {
     let first = time::after(t, Span(w.first as u32));
     let last = time::after(t, Span(w.last as u32));
-    board::run_free(
-        board,
-        sizes.horizon,
-        w.cell as usize,
-        plain(first),
-        plain(last),
-    )
+    board::run_free(board, sizes.horizon, w.cell, plain(first), plain(last))
 }
 
 // Each swept cell of the motion is free while the motion uses it, where it starts at `t`.
@@ -91,13 +85,7 @@ pub fn wait_allowed(file: &[u8], board: &[u8], sizes: Sizes, a: Node, n: Span) -
     let last = time::after(a.tick, n);
     if in_time(last, sizes) {
         let cell = site::state_cell(file, state);
-        board::run_free(
-            board,
-            sizes.horizon,
-            cell as usize,
-            plain(a.tick),
-            plain(last),
-        )
+        board::run_free(board, sizes.horizon, cell, plain(a.tick), plain(last))
     } else {
         false
     }

@@ -28,7 +28,7 @@ fn search(
 {
     let states = search_site::decode_states(file, layout.states);
     let moves = search_site::decode_moves(file, layout.start);
-    let frees = search_free::free_rows(board, layout.cells as usize, layout.horizon);
+    let frees = search_free::free_rows(board, layout.cells, layout.horizon);
     let mut allowed = [18446744073709551615u64; 32000];
     search_reach::allow_all(&mut allowed, &frees, &moves, file, layout.motions);
     let reached = search_reach::explore(

@@ -9,8 +9,8 @@ ghost use Rattle.site_layout.specs.Laid.{statePlace};
 ghost use Rattle.search_site.specs.Decodes.{StatesHeld, two, Small, stored, MotionsHeld};
 
 // Writes the two numbers of the state s.
-fn put_state(states: &mut [u16; 512], s: usize, cell: u8, speed: u8)
-    requires { ⌜ s < 256 ⌝ }
+fn put_state(states: &mut [u16; 512], s: usize, cell: usize, speed: u8)
+    requires { ⌜ (s < 256) × (cell < 65536) ⌝ }
     ensures { λ _. ⌜ now (states .exit) ≡ two (now (states .entry)) (s * 2) cell speed ⌝ }
 {
     states[s * 2] = cell as u16;

@@ -9,7 +9,7 @@ ghost use Rattle.meaning.specs.Basics.{all};
 ghost use Rattle.meaning.specs.Fields.{complete, listed};
 ghost use Rattle.meaning.specs.Site.{siteOf, stateAt, motionAt, motionOf, isMotion, cellGood, endsGood, motionGood, readSite};
 ghost use Rattle.fields.specs.Places.{fieldsAt, fieldAt};
-ghost use Rattle.site_layout.specs.Laid.{statePlace, HeadIs, Laid};
+ghost use Rattle.site_layout.specs.Laid.{statePlace, HeadIs, Laid, StateValue};
 ghost use Rattle.site.specs.Motions.{MotionIs, Motions, Index};
 ghost use Rattle.site.specs.Check.{checkOf};
 
@@ -21,23 +21,31 @@ fn state_place(i: usize) -> usize
     8 + 5 * i
 }
 
-// The cell and the speed of the state `i`.
-pub fn state_cell(file: &[u8], i: usize) -> u8
+// Where the value of the state `i` starts.
+fn state_value(file: &[u8], i: usize) -> usize
     requires { ⌜ Laid (now file) × (i < length (siteOf (now file) .states)) ⌝ }
-    ensures { λ r. ⌜ r ≡ stateAt (siteOf (now (file .entry))) i .cell ⌝ }
+    ensures { λ r. ⌜ StateValue (now (file .entry)) i r ⌝ }
 {
-    file[state_place(i) + 3]
+    state_place(i) + 3
+}
+
+// The cell and the speed of the state `i`.
+pub fn state_cell(file: &[u8], i: usize) -> usize
+    requires { ⌜ Laid (now file) × (i < length (siteOf (now file) .states)) ⌝ }
+    ensures { λ r. ⌜ (r ≡ stateAt (siteOf (now (file .entry))) i .cell) × (r < 65536) ⌝ }
+{
+    fields::byte_at(file, state_value(file, i))
 }
 
 pub fn state_speed(file: &[u8], i: usize) -> u8
     requires { ⌜ Laid (now file) × (i < length (siteOf (now file) .states)) ⌝ }
     ensures { λ r. ⌜ r ≡ stateAt (siteOf (now (file .entry))) i .speed ⌝ }
 {
-    file[state_place(i) + 4]
+    file[state_value(file, i) + 1]
 }
 
 // Each of the `count` states names a cell below `cells`.
-fn states_good(file: &[u8], count: usize, cells: u8) -> bool
+fn states_good(file: &[u8], count: usize, cells: usize) -> bool
     requires { ⌜ Laid (now file) × (count ≡ length (siteOf (now file) .states)) ⌝ }
     ensures { λ r. ⌜ r ≡ all (cellGood cells) (siteOf (now (file .entry)) .states) ⌝ }
 {
@@ -95,7 +103,7 @@ fn ends_good(from: usize, to: usize, span: u8, count: usize) -> bool
 }
 
 // The motion whose field starts at `at` meets the rules on its values and sweeps.
-fn motion_good(file: &[u8], at: usize, count: usize, cells: u8) -> bool
+fn motion_good(file: &[u8], at: usize, count: usize, cells: usize) -> bool
     requires { ⌜ Laid (now file) × (complete (fieldsAt (now file) at) ≡ true) × (at < length (now file)) × (isMotion (fieldAt (now file) at) ≡ true) ⌝ }
     requires { ⌜ (cells ≡ siteOf (now file) .cells) × (count ≡ length (siteOf (now file) .states)) ⌝ }
     ensures { λ r. ⌜ r ≡ motionGood (siteOf (now (file .entry))) (motionOf (fieldAt (now (file .entry)) at)) ⌝ }
@@ -116,7 +124,7 @@ fn motion_good(file: &[u8], at: usize, count: usize, cells: u8) -> bool
 }
 
 // Each motion from `start` on does.
-fn motions_good(file: &[u8], start: usize, count: usize, cells: u8) -> bool
+fn motions_good(file: &[u8], start: usize, count: usize, cells: usize) -> bool
     requires { ⌜ Laid (now file) × Motions (now file) start ⌝ }
     requires { ⌜ (cells ≡ siteOf (now file) .cells) × (count ≡ length (siteOf (now file) .states)) ⌝ }
     ensures { λ r. ⌜ r ≡ all (motionGood (siteOf (now (file .entry)))) (map motionOf (listed (fieldsAt (now (file .entry)) start))) ⌝ }
@@ -135,7 +143,7 @@ fn motions_good(file: &[u8], start: usize, count: usize, cells: u8) -> bool
 // What an accepted file says of its site: H, C, the counts, and where the motions start.
 pub struct Sizes {
     pub horizon: usize,
-    pub cells: u8,
+    pub cells: usize,
     pub states: usize,
     pub motions: usize,
     pub start: usize,

@@ -11,14 +11,14 @@ use borrow.Author.Tests.{eqb-true, eqb-false, leb-true, leb-false, eq-eqb, ne-eq
 use Rattle.meaning.specs.Limits.{stateLimit}
 use Rattle.meaning.specs.Basics.{u16At}
 use Rattle.meaning.specs.Fields.{Field, noField, Fields, cut, fields, complete, listed}
-use Rattle.meaning.specs.Site.{noState, headOf, laterOf, stateCount, headGood, isState, isMotion, motionsLaid, layoutGood, stateOf, motionOf, siteOf, stateAt}
+use Rattle.meaning.specs.Site.{noState, headOf, laterOf, stateCount, headGood, isState, isMotion, motionsLaid, layoutGood, stateOf, motionOf, siteOf}
 use Rattle.meaning.proofs.BasicsLaws.{and-left}
 use Rattle.meaning.proofs.SiteFieldsLaws.{head-good, state-parts}
 use Rattle.meaning.proofs.SiteLaws.{state-number}
 use Rattle.fields.specs.declared.Header.{Header}
 use Rattle.fields.specs.Places.{fieldsAt, fieldAt, Next, Whole}
 use Rattle.fields.proofs.Laws.{by-place, whole-at, at-next, room, listed-end, listed-next, value-length, field-tag, value-byte, value-u16, next-is, whole-listed, whole-length}
-use Rattle.site_layout.specs.Laid.{firstIs, headValues, motionLength, statePlace, Laid}
+use Rattle.site_layout.specs.Laid.{firstIs, headValues, motionLength, statePlace, Laid, StateValue}
 
 -- ---- the first field from a place on
 
@@ -113,13 +113,24 @@ head-here file w g =
           count = rw h (value-u16 file 0 3 (omega arith));
         }
 
--- where the reader says that its values start, and the states
-pub header-places : (file : List ℕ) → HeadHere file → (h : Header) → Whole file 0 h → (h .start ≡ 3) × (h .next ≡ 8)
-header-places file x h w =
-    let f = x .five in
-    let l = w .len in
-    let n = w .next in
-    (w .start, omega arith)
+-- its values, where the reader says that they start
+pub record HeadRead (file : List ℕ) (h : Header) : Type 0 where
+  pub inside : h .start + 5 ≤ length file
+  pub next : h .next ≡ 8
+  pub horizon : u16At file (h .start) ≡ siteOf file .horizon
+  pub cells : getD file (h .start + 2) 0 ≡ siteOf file .cells
+  pub count : u16At file (h .start + 3) ≡ stateCount file
+
+pub head-read : (file : List ℕ) → HeadHere file → (h : Header) → Whole file 0 h → HeadRead file h
+head-read file x h w =
+    let s : h .start ≡ 3 = w .start in
+    record {
+      inside = omega (arith, x .long);
+      next = omega (arith, x .five, w .len, w .next);
+      horizon = ap (u16At file) s ∙ sym (x .horizon);
+      cells = ap (λ (k : ℕ). getD file (k + 2) 0) s ∙ sym (x .cells);
+      count = ap (λ (k : ℕ). u16At file (k + 3)) s ∙ sym (x .count);
+    }
 
 -- ---- a field's test, by what the reader says of it
 
@@ -305,14 +316,11 @@ module _ (file : List ℕ) (laid : Laid file) where
   pub laid-state : (i : ℕ) → i < length (siteOf file .states) → StateAt file 8 (stateCount file) i
   laid-state i p = let e = laid-count in state-at file i 8 (stateCount file) (omega arith) (laid-head .whole) laid-layout
 
-  pub laid-place : (i : ℕ) → i < length (siteOf file .states) → (i < 65536) × (statePlace i + 5 ≤ length file)
-  laid-place i p =
-      let e = laid-count in
-      let f = states-few in
-      (omega arith, laid-state i p .inside)
+  pub laid-small : (i : ℕ) → i < length (siteOf file .states) → i < 65536
+  laid-small i p = omega (arith, laid-count, states-few)
 
-  pub laid-cell : (i : ℕ) → i < length (siteOf file .states) → stateAt (siteOf file) i .cell ≡ getD file (statePlace i + 3) 0
-  laid-cell i p = rw laid-states (laid-state i p .cell)
-
-  pub laid-speed : (i : ℕ) → i < length (siteOf file .states) → stateAt (siteOf file) i .speed ≡ getD file (statePlace i + 4) 0
-  laid-speed i p = rw laid-states (laid-state i p .speed)
+  pub laid-value : (i r : ℕ) → i < length (siteOf file .states) → r ≡ statePlace i → StateValue file i (r + 3)
+  laid-value i r p e =
+      let x = laid-state i p in
+      let b : statePlace i + 4 ≡ statePlace i + 3 + 1 = omega arith in
+      rw e (record { inside = omega (arith, x .inside); cell = rw laid-states (x .cell); speed = rw laid-states (x .speed ∙ ap (λ (k : ℕ). getD file k 0) b) })

@@ -1,15 +1,15 @@
 -- A site file whose fields are laid out well, and the parts of that test.
 -- Assumes nothing.
-use Prim.Native.Nat.{ℕ, _+_, _*_}
+use Prim.Native.Nat.{ℕ, _+_, _*_, _≤_}
 use mathlib.Core.Path.{_≡_}
 use mathlib.Core.List.{List, [], _∷_}
 use mathlib.Core.Bool.{Bool, true, false, _&&_}
-use lib.ListN.{getD}
+use lib.ListN.{length, getD}
 use lib.Dec.{eqb}
 use Rattle.meaning.specs.Limits.{horizonLimit, cellLimit, stateLimit, sweepLimit, fieldHeader, headSize, stateSize, motionSize, sweepSize}
 use Rattle.meaning.specs.Basics.{within, u16At}
 use Rattle.meaning.specs.Fields.{Field, fields, complete}
-use Rattle.meaning.specs.Site.{headOf, headGood, laterOf, stateCount, layoutGood, sweepCount, siteOf}
+use Rattle.meaning.specs.Site.{headOf, headGood, laterOf, stateCount, layoutGood, sweepCount, siteOf, stateAt}
 use Rattle.site_layout.specs.declared.Head.{Head}
 
 -- there is a first field, and p holds of it
@@ -41,3 +41,9 @@ pub record HeadIs (file : List ℕ) (head : Head) : Type 0 where
   pub cells : head .cells ≡ siteOf file .cells
   pub states : head .states ≡ stateCount file
   pub start : head .start ≡ statePlace 0
+
+-- the value of the state i starts at the place r: its cell, then its speed
+pub record StateValue (file : List ℕ) (i r : ℕ) : Type 0 where
+  pub inside : r + stateSize ≤ length file
+  pub cell : stateAt (siteOf file) i .cell ≡ getD file r 0
+  pub speed : stateAt (siteOf file) i .speed ≡ getD file (r + 1) 0

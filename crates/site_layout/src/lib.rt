@@ -154,7 +154,7 @@ pub fn layout_good(file: &[u8], start: usize, count: usize) -> bool
 // What a good head says: H, C, S, and where the states start.
 pub struct Head {
     pub horizon: usize,
-    pub cells: u8,
+    pub cells: usize,
     pub states: usize,
     pub start: usize,
 }
@@ -167,7 +167,7 @@ pub fn read_head(file: &[u8]) -> Head
     let at = h.start;
     Head {
         horizon: fields::number_at(file, at),
-        cells: file[at + 2],
+        cells: fields::byte_at(file, at + 2),
         states: fields::number_at(file, at + 3),
         start: h.next,
     }

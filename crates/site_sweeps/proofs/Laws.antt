@@ -1,7 +1,7 @@
 -- Laws of the sweeps by place, and of the tests on them.
 -- Assumes nothing.
 use Prim.Native.Nat.{ℕ, zero, suc, _+_, _*_, _-_, _≤_, _<_}
-use mathlib.Core.Path.{_≡_, refl, ap, _∙_}
+use mathlib.Core.Path.{_≡_, refl, sym, ap, ap₂, _∙_}
 use mathlib.Core.List.{List, [], _∷_}
 use mathlib.Core.Bool.{Bool, true, false, _&&_, and-false}
 use native.Mathlib.Omega.{arith}
@@ -12,7 +12,8 @@ use borrow.Author.Tests.{eqb-true, eqb-false, ltb-true, ltb-false, le-leb, eq-eq
 use Rattle.meaning.specs.Basics.{any, all, allBelow}
 use Rattle.meaning.specs.Site.{Sweep, sweepsOf, covers, uses, carries, handover}
 use Rattle.meaning.proofs.BasicsLaws.{decide, below-at, below-all}
-use Rattle.site_sweeps.specs.Places.{sweepAt, sweepsAt, Within, Linked}
+use Rattle.site_sweeps.specs.Places.{sweepAt, sweepsAt, sweepOf, Within, Linked, SweepIs}
+use Rattle.site_sweeps.specs.declared.Sweep as ReadSweep
 
 -- the first of n sweeps, on a list
 take-sweep : (s : List ℕ) (n : ℕ) → 3 + 3 * n ≤ length s →
@@ -56,35 +57,60 @@ sweeps-at (suc i) (suc n) file at d h p =
     ap (λ (ws : List Sweep). getD ws (suc i) d) (sweeps-next file at (suc n) (omega arith) p)
     ∙ rw (m, z) (sweeps-at i n file (at + 3) d (omega arith) (omega arith))
 
--- a test of some or of all sweeps, by place
-module _ (p : Sweep → Bool) (file : List ℕ) (at n : ℕ) where
-  pub any-none : n ≡ 0 → any p (sweepsAt file at n) ≡ false
+-- ---- the sweeps from the number i on
+
+abbrev pub restAt : List ℕ → ℕ → ℕ → ℕ → List Sweep
+restAt file at n i = sweepsAt file (at + 3 * i) (n - i)
+
+pub rest-whole : (file : List ℕ) (at n : ℕ) → restAt file at n 0 ≡ sweepsAt file at n
+rest-whole file at n =
+    let place : at + 3 * 0 ≡ at = omega arith in
+    let left : n - 0 ≡ n = omega arith in
+    ap₂ (sweepsAt file) place left
+
+module _ (file : List ℕ) (at n i : ℕ) where
+  pub rest-none : n ≤ i → restAt file at n i ≡ []
+  rest-none h = sweeps-none file (at + 3 * i) (n - i) (omega arith)
+
+  pub rest-next : i < n → at + 3 * n ≤ length file → restAt file at n i ≡ sweepAt file (at + 3 * i) ∷ restAt file at n (i + 1)
+  rest-next h r =
+      let place : at + 3 * i + 3 ≡ at + 3 * (i + 1) = omega arith in
+      let left : n - i - 1 ≡ n - (i + 1) = omega arith in
+      sweeps-next file (at + 3 * i) (n - i) (omega arith) (omega arith) ∙ ap₂ (λ (x y : ℕ). sweepAt file (at + 3 * i) ∷ sweepsAt file x y) place left
+
+-- what a test says of the sweep that was read, it says of the one in the file
+pub read-test : (p : Sweep → Bool) {w : Sweep} {r : ReadSweep.Sweep} {b c : Bool} → SweepIs w r → b ≡ p (sweepOf r) → b ≡ c → p w ≡ c
+read-test p s e t = ap p (sym (s .same)) ∙ sym e ∙ t
+
+-- a test of some or of all of them
+module _ (p : Sweep → Bool) (file : List ℕ) (at n i : ℕ) where
+  pub any-none : n ≤ i → any p (restAt file at n i) ≡ false
   unfolding any
-  any-none h = rw (sweeps-none file at n h)
+  any-none h = rw (rest-none file at n i h)
 
-  pub all-none : n ≡ 0 → all p (sweepsAt file at n) ≡ true
+  pub all-none : n ≤ i → all p (restAt file at n i) ≡ true
   unfolding all
-  all-none h = rw (sweeps-none file at n h)
+  all-none h = rw (rest-none file at n i h)
 
-  pub any-hit : 0 < n → at + 3 * n ≤ length file → p (sweepAt file at) ≡ true → any p (sweepsAt file at n) ≡ true
+  pub any-hit : i < n → at + 3 * n ≤ length file → p (sweepAt file (at + 3 * i)) ≡ true → any p (restAt file at n i) ≡ true
   unfolding any
-  any-hit h q e = rw (sweeps-next file at n h q, e)
+  any-hit h q e = rw (rest-next file at n i h q, e)
 
-  pub any-miss : 0 < n → at + 3 * n ≤ length file → p (sweepAt file at) ≡ false → any p (sweepsAt file at n) ≡ any p (sweepsAt file (at + 3) (n - 1))
+  pub any-miss : i < n → at + 3 * n ≤ length file → p (sweepAt file (at + 3 * i)) ≡ false → any p (restAt file at n i) ≡ any p (restAt file at n (i + 1))
   unfolding any
-  any-miss h q e = rw (sweeps-next file at n h q, e)
+  any-miss h q e = rw (rest-next file at n i h q, e)
 
-  pub all-hit : 0 < n → at + 3 * n ≤ length file → p (sweepAt file at) ≡ true → all p (sweepsAt file at n) ≡ all p (sweepsAt file (at + 3) (n - 1))
+  pub all-hit : i < n → at + 3 * n ≤ length file → p (sweepAt file (at + 3 * i)) ≡ true → all p (restAt file at n i) ≡ all p (restAt file at n (i + 1))
   unfolding all
-  all-hit h q e = rw (sweeps-next file at n h q, e)
+  all-hit h q e = rw (rest-next file at n i h q, e)
 
-  pub all-miss : 0 < n → at + 3 * n ≤ length file → p (sweepAt file at) ≡ false → all p (sweepsAt file at n) ≡ false
+  pub all-miss : i < n → at + 3 * n ≤ length file → p (sweepAt file (at + 3 * i)) ≡ false → all p (restAt file at n i) ≡ false
   unfolding all
-  all-miss h q e = rw (sweeps-next file at n h q, e)
+  all-miss h q e = rw (rest-next file at n i h q, e)
 
   -- what a later sweep meets, one of these does
-  pub any-later : 0 < n → at + 3 * n ≤ length file → any p (sweepsAt file (at + 3) (n - 1)) ≡ true → any p (sweepsAt file at n) ≡ true
-  any-later h q e = decide (p (sweepAt file at)) (λ k. any-hit h q k) (λ k. any-miss h q k ∙ e)
+  pub any-later : i < n → at + 3 * n ≤ length file → any p (restAt file at n (i + 1)) ≡ true → any p (restAt file at n i) ≡ true
+  any-later h q e = decide (p (sweepAt file (at + 3 * i))) (λ k. any-hit h q k) (λ k. any-miss h q k ∙ e)
 
 -- ---- handovers by one sweep
 

@@ -27,8 +27,11 @@ pub record Linked (ws : List Sweep) (j r : ℕ) : Type 0 where
   pub on : j ≤ r
   pub each : (i : ℕ) → j ≤ i → i < r → handover ws i ≡ true
 
--- what r says is the sweep w
+-- the sweep that was read
+abbrev pub sweepOf : ReadSweep.Sweep → Sweep
+sweepOf r = record { cell = r .cell; first = r .first; last = r .last }
+
+-- it is the sweep w, and its cell is a byte's value
 pub record SweepIs (w : Sweep) (r : ReadSweep.Sweep) : Type 0 where
-  pub cell : r .cell ≡ w .cell
-  pub first : r .first ≡ w .first
-  pub last : r .last ≡ w .last
+  pub same : sweepOf r ≡ w
+  pub small : r .cell < 256

@@ -5,11 +5,14 @@ ghost use Prim.Native.Nat.{_+_, _*_, _<_, _≤_};
 ghost use lib.ListN.{length};
 ghost use Rattle.meaning.specs.Basics.{all, allBelow};
 ghost use Rattle.meaning.specs.Site.{covers, uses, handover, sweepGood, sweepsGood};
-ghost use Rattle.site_sweeps.specs.Places.{sweepAt, sweepsAt, Within, Linked, SweepIs};
+ghost use Rattle.site_sweeps.specs.Places.{sweepAt, sweepsAt, sweepOf, Within, Linked, SweepIs};
+
+// The bytes of a sweep in the file: its cell, its first and its last offset.
+const SWEEP_SIZE: usize = 3;
 
 // A sweep: its cell, and the first and the last offset at which it uses it.
 pub struct Sweep {
-    pub cell: u8,
+    pub cell: usize,
     pub first: u8,
     pub last: u8,
 }
@@ -19,50 +22,44 @@ pub fn read_sweep(file: &[u8], at: usize, i: usize) -> Sweep
     requires { ⌜ at + 3 * i + 2 < length (now file) ⌝ }
     ensures { λ r. ⌜ SweepIs (sweepAt (now (file .entry)) (at + 3 * i)) r ⌝ }
 {
-    let p = at + 3 * i;
+    let p = at + SWEEP_SIZE * i;
     Sweep {
-        cell: file[p],
+        cell: file[p] as usize,
         first: file[p + 1],
         last: file[p + 2],
     }
 }
 
-// The sweep at `at` uses the cell at the offset `t`.
-fn covers_at(file: &[u8], at: usize, cell: u8, t: u8) -> bool
-    requires { ⌜ at + 2 < length (now file) ⌝ }
-    ensures { λ r. ⌜ r ≡ covers cell t (sweepAt (now (file .entry)) at) ⌝ }
+// The sweep uses the cell at the offset `t`.
+fn covers(w: Sweep, cell: usize, t: u8) -> bool
+    ensures { λ r. ⌜ r ≡ covers cell t (sweepOf w) ⌝ }
 {
-    if file[at] != cell {
+    if w.cell != cell {
         return false;
     }
-    if t < file[at + 1] {
+    if t < w.first {
         return false;
     }
-    if file[at + 2] < t {
-        return false;
-    }
-    true
+    t <= w.last
 }
 
 // Some one of `count` sweeps from `at` on uses the cell at the offset `t`.
-fn used(file: &[u8], at: usize, count: usize, cell: u8, t: u8) -> bool
+fn used(file: &[u8], at: usize, count: usize, cell: usize, t: u8) -> bool
     requires { ⌜ at + 3 * count ≤ length (now file) ⌝ }
     ensures { λ r. ⌜ r ≡ uses (sweepsAt (now (file .entry)) at count) cell t ⌝ }
 {
-    let mut p = at;
-    let mut left = count;
-    while 0 < left {
-        if covers_at(file, p, cell, t) {
+    let mut i = 0;
+    while i < count {
+        if covers(read_sweep(file, at, i), cell, t) {
             return true;
         }
-        p = p + 3;
-        left = left - 1;
+        i = i + 1;
     }
     false
 }
 
 // The cell is used at both `j` and `j` + 1.
-fn carried(file: &[u8], at: usize, count: usize, cell: u8, j: u8) -> bool
+fn carried(file: &[u8], at: usize, count: usize, cell: usize, j: u8) -> bool
     requires { ⌜ (at + 3 * count ≤ length (now file)) × (j < 255) ⌝ }
     ensures { λ r. ⌜ r ≡ (uses (sweepsAt (now (file .entry)) at count) cell j && uses (sweepsAt (now (file .entry)) at count) cell (j + 1)) ⌝ }
 {
@@ -78,30 +75,28 @@ fn handed_over(file: &[u8], at: usize, count: usize, j: u8) -> bool
     requires { ⌜ (at + 3 * count ≤ length (now file)) × (j < 255) ⌝ }
     ensures { λ r. ⌜ r ≡ handover (sweepsAt (now (file .entry)) at count) j ⌝ }
 {
-    let mut p = at;
-    let mut left = count;
-    while 0 < left {
-        if carried(file, at, count, file[p], j) {
+    let mut i = 0;
+    while i < count {
+        let w = read_sweep(file, at, i);
+        if carried(file, at, count, w.cell, j) {
             return true;
         }
-        p = p + 3;
-        left = left - 1;
+        i = i + 1;
     }
     false
 }
 
-// The last offset of the sweep at `at`, if the sweep uses the offset `j`; else `j`.
-fn last_from(file: &[u8], at: usize, j: u8) -> u8
-    requires { ⌜ at + 2 < length (now file) ⌝ }
-    ensures { λ r. ⌜ Within (sweepAt (now (file .entry)) at) j r ⌝ }
+// The last offset of the sweep, if the sweep uses the offset `j`; else `j`.
+fn last_from(w: Sweep, j: u8) -> u8
+    ensures { λ r. ⌜ Within (sweepOf w) j r ⌝ }
 {
-    if j < file[at + 1] {
+    if j < w.first {
         return j;
     }
-    if file[at + 2] < j {
+    if w.last < j {
         return j;
     }
-    file[at + 2]
+    w.last
 }
 
 // An offset up to which single sweeps, one after the other, hand over from `j` on.
@@ -110,12 +105,10 @@ fn linked_to(file: &[u8], at: usize, count: usize, j: u8) -> u8
     ensures { λ r. ⌜ Linked (sweepsAt (now (file .entry)) at count) j r ⌝ }
 {
     let mut end = j;
-    let mut p = at;
-    let mut left = count;
-    while 0 < left {
-        end = last_from(file, p, end);
-        p = p + 3;
-        left = left - 1;
+    let mut i = 0;
+    while i < count {
+        end = last_from(read_sweep(file, at, i), end);
+        i = i + 1;
     }
     end
 }
@@ -151,36 +144,30 @@ fn all_handed_over(file: &[u8], at: usize, count: usize, span: u8) -> bool
     true
 }
 
-// The sweep at `at` keeps to the cells and the span.
-fn sweep_good(file: &[u8], at: usize, cells: u8, span: u8) -> bool
-    requires { ⌜ at + 2 < length (now file) ⌝ }
-    ensures { λ r. ⌜ r ≡ sweepGood cells span (sweepAt (now (file .entry)) at) ⌝ }
+// The sweep keeps to the cells and the span.
+fn sweep_good(w: Sweep, cells: usize, span: u8) -> bool
+    ensures { λ r. ⌜ r ≡ sweepGood cells span (sweepOf w) ⌝ }
 {
-    if cells <= file[at] {
+    if cells <= w.cell {
         return false;
     }
-    if file[at + 2] < file[at + 1] {
+    if w.last < w.first {
         return false;
     }
-    if span < file[at + 2] {
-        return false;
-    }
-    true
+    w.last <= span
 }
 
 // Each of `count` sweeps from `at` on does.
-fn sweeps_good(file: &[u8], at: usize, count: usize, cells: u8, span: u8) -> bool
+fn sweeps_good(file: &[u8], at: usize, count: usize, cells: usize, span: u8) -> bool
     requires { ⌜ at + 3 * count ≤ length (now file) ⌝ }
     ensures { λ r. ⌜ r ≡ all (sweepGood cells span) (sweepsAt (now (file .entry)) at count) ⌝ }
 {
-    let mut p = at;
-    let mut left = count;
-    while 0 < left {
-        if !sweep_good(file, p, cells, span) {
+    let mut i = 0;
+    while i < count {
+        if !sweep_good(read_sweep(file, at, i), cells, span) {
             return false;
         }
-        p = p + 3;
-        left = left - 1;
+        i = i + 1;
     }
     true
 }
@@ -191,9 +178,9 @@ pub fn sweeps_pass(
     first: usize,
     count: usize,
     span: u8,
-    cells: u8,
-    x: u8,
-    y: u8,
+    cells: usize,
+    x: usize,
+    y: usize,
 ) -> bool
     requires { ⌜ first + 3 * count ≤ length (now file) ⌝ }
     ensures { λ r. ⌜ r ≡ sweepsGood cells x y span (sweepsAt (now (file .entry)) first count) ⌝ }

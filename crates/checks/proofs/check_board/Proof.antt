@@ -39,9 +39,9 @@ enum-known-l c = search needs
 board-length-requires : tie.Need-board-length-requires
 board-length-requires c κs =
     let f = start (c .before) .args .file .now in
-    let same : c .before .l .given .0 .0 .horizon ≡ siteOf f .horizon = ap (λ (l : Sizes). l .horizon) (said (c .before)) in
-    let short = read-well f _ (accepted-read f _ (accepted (c .before))) .horizon-range .1 in
-    omega arith
+    let same = said (c .before) in
+    let well = read-well f _ (accepted-read f _ (accepted (c .before))) in
+    rw same (well .cells-range .1, well .horizon-range .1)
 
 returns : tie.Need-returns
 returns c =

@@ -6,9 +6,6 @@ use Rattle.checks.proofs.Laws.{interval-10, interval-14, interval-0}
 use Rattle.checks.proofs.interval_later.Statement.{statement}
 use Rattle.checks.proofs.interval_later.Tie as tie
 
-cast-if1 : tie.Need-cast-if1
-cast-if1 c = search needs
-
 returns : tie.Need-returns
 returns c = λ site areas says same. interval-10 site areas _ (omega arith)
 
@@ -22,4 +19,4 @@ returns-3 : tie.Need-returns-3
 returns-3 c = λ site areas says same. interval-0 site areas _ (omega arith) (omega arith)
 
 pub interval-later-spec : {M : Type 1} → statement M
-interval-later-spec = tie.close (tie.spec cast-if1 returns add-if2 returns-2 returns-3)
+interval-later-spec = tie.close (tie.spec returns add-if2 returns-2 returns-3)

@@ -6,9 +6,6 @@ use borrow.Author.Needs.{needs}
 use Rattle.checks.proofs.run_named.Statement.{statement}
 use Rattle.checks.proofs.run_named.Tie as tie
 
-cast-if1 : tie.Need-cast-if1
-cast-if1 c = search needs
-
 returns : tie.Need-returns
 returns c = λ site says. no-cell site _ _ _ (omega arith)
 
@@ -22,4 +19,4 @@ returns-4 : tie.Need-returns-4
 returns-4 c = λ site says. in-order site _ _ _ (omega arith) (omega arith) (omega arith)
 
 pub run-named-spec : {M : Type 1} → statement M
-run-named-spec = tie.close (tie.spec cast-if1 returns returns-2 returns-3 returns-4)
+run-named-spec = tie.close (tie.spec returns returns-2 returns-3 returns-4)

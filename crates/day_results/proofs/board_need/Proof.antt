@@ -23,9 +23,6 @@ check-site-requires c κs = search needs
 enum-known-l : tie.Need-enum-known-l
 enum-known-l c = search needs
 
-cast-size : tie.Need-cast-size
-cast-size c = search needs
-
 add-size : tie.Need-add-size
 add-size c = let at = c .before .before .before in omega (arith, short (start at .args .file .now) _ (accepted at))
 
@@ -59,7 +56,6 @@ board-need-spec =
     (tie.spec
     check-site-requires
     enum-known-l
-    cast-size
     add-size
     mul-size
     add-size-2

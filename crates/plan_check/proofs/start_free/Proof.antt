@@ -24,9 +24,6 @@ state-cell-requires c κs =
     let k = known (c .before .before .before .before .before .before .pre) in
     (k .laid, omega (arith, k .states))
 
-cast-is-free : tie.Need-cast-is-free
-cast-is-free c = search needs
-
 plain-requires : tie.Need-plain-requires
 plain-requires c κs = search needs
 
@@ -35,7 +32,7 @@ is-free-requires c κs =
     let k = known (c .before .before .before .before .before .before .before .before .pre) in
     let inside = k .cell (c .before .before .before .before .before .before .before .before .args .a .state) (omega (arith, k .states)) in
     let late = leb-true (c .before .before .before .before .before .before .before .before .args .a .tick .0) (c .before .before .before .before .before .before .before .before .args .sizes .horizon) (sym (c .before .before .before .in-time .ensures) ∙ c .before .before .if2 .taken) in
-    k .row _ _ (omega (arith, inside, c .before .state-cell .ensures)) (omega (arith, late, k .horizon, c .plain .ensures))
+    k .row _ _ (omega (arith, inside, c .before .state-cell .ensures .0)) (omega (arith, late, k .horizon, c .plain .ensures))
 
 returns-2 : tie.Need-returns-2
 returns-2 c =
@@ -43,7 +40,7 @@ returns-2 c =
     let k = known (c .before .before .before .before .before .before .before .before .before .pre) in
     let s = siteOf (a .file .now) in
     let f = free s (a .board .now) in
-    let cell = c .before .before .state-cell .ensures in
+    let cell = c .before .before .state-cell .ensures .0 in
     let inside = k .cell (a .a .state) (omega (arith, k .states)) in
     c .is-free .ensures s (k .horizon) (omega (arith, inside, cell))
     ∙ (λ i. f (cell i) (c .before .plain .ensures i))
@@ -61,7 +58,6 @@ start-free-spec =
     returns
     in-time-requires
     state-cell-requires
-    cast-is-free
     plain-requires
     is-free-requires
     returns-2

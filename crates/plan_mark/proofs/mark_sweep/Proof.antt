@@ -28,9 +28,6 @@ after-requires-2 c κs =
     let s = c .before .before .before .before .before .pre .1 in
     omega (arith, k .short, s .in-time)
 
-cast-mark-run : tie.Need-cast-mark-run
-cast-mark-run c = search needs
-
 plain-requires : tie.Need-plain-requires
 plain-requires c κs = search needs
 
@@ -39,19 +36,19 @@ plain-requires-2 c κs = search needs
 
 mark-run-requires : tie.Need-mark-run-requires
 mark-run-requires c κs =
-    let k = known (c .before .before .before .before .before .before .before .before .before .before .pre .0) in
-    let s = c .before .before .before .before .before .before .before .before .before .before .pre .1 in
-    k .row _ _ (s .known) (omega (arith, s .in-time, c .plain2 .ensures, c .before .before .before .before .after2 .ensures))
+    let k = known (c .before .before .before .before .before .before .before .before .before .pre .0) in
+    let s = c .before .before .before .before .before .before .before .before .before .pre .1 in
+    k .row _ _ (s .known) (omega (arith, s .in-time, c .plain2 .ensures, c .before .before .before .after2 .ensures))
 
 same-length : tie.Need-same-length
 same-length c = search needs
 
 returns : tie.Need-returns
 returns c =
-    let a = c .before .before .before .before .before .before .before .before .before .before .before .before .before .args in
+    let a = c .before .before .before .before .before .before .before .before .before .before .before .before .args in
     let s = siteOf (a .file .now) in
-    c .before .before .mark-run .ensures s (known (c .before .before .before .before .before .before .before .before .before .before .before .before .before .pre .0) .horizon)
-    ∙ ap₂ (λ (x y : ℕ). mark s (a .tug) (runTo (a .w .cell) x y) (a .board .now)) (c .before .before .before .before .plain .ensures ∙ c .before .before .before .before .before .before .before .before .before .after .ensures) (c .before .before .before .plain2 .ensures ∙ c .before .before .before .before .before .before .before .after2 .ensures)
+    c .before .before .mark-run .ensures s (known (c .before .before .before .before .before .before .before .before .before .before .before .before .pre .0) .horizon)
+    ∙ ap₂ (λ (x y : ℕ). mark s (a .tug) (runTo (a .w .cell) x y) (a .board .now)) (c .before .before .before .before .plain .ensures ∙ c .before .before .before .before .before .before .before .before .after .ensures) (c .before .before .before .plain2 .ensures ∙ c .before .before .before .before .before .before .after2 .ensures)
 
 pub mark-sweep-spec : {M : Type 1} → statement M
 mark-sweep-spec =
@@ -61,7 +58,6 @@ mark-sweep-spec =
     after-requires
     cast-t9-2
     after-requires-2
-    cast-mark-run
     plain-requires
     plain-requires-2
     mark-run-requires

@@ -16,9 +16,6 @@ after-requires : tie.Need-after-requires
 after-requires c κs =
     omega (arith, known (c .before .before .before .pre .0) .short, c .before .before .before .pre .2)
 
-cast-mark-run : tie.Need-cast-mark-run
-cast-mark-run c = search needs
-
 plain-requires : tie.Need-plain-requires
 plain-requires c κs = search needs
 
@@ -29,7 +26,7 @@ mark-run-requires : tie.Need-mark-run-requires
 mark-run-requires c κs =
     let k = known (c .before .before .before .before .before .before .before .pre .0) in
     let inside = k .cell _ (c .before .before .before .before .before .before .before .pre .1 .state) in
-    k .row _ _ (omega (arith, inside, c .before .before .before .before .state-cell .ensures)) (omega (arith, c .before .before .before .before .before .before .before .pre .2, c .plain2 .ensures, c .before .before .before .after .ensures))
+    k .row _ _ (omega (arith, inside, c .before .before .before .before .state-cell .ensures .0)) (omega (arith, c .before .before .before .before .before .before .before .pre .2, c .plain2 .ensures, c .before .before .before .after .ensures))
 
 same-length : tie.Need-same-length
 same-length c = search needs
@@ -39,7 +36,7 @@ returns c =
     let a = c .before .before .before .before .before .before .before .before .before .before .args in
     let s = siteOf (a .file .now) in
     c .before .before .mark-run .ensures s (known (c .before .before .before .before .before .before .before .before .before .before .pre .0) .horizon)
-    ∙ (λ i. mark s (a .tug) (runTo (c .before .before .before .before .before .before .before .state-cell .ensures i) (c .before .before .before .before .plain .ensures i) ((c .before .before .before .plain2 .ensures ∙ c .before .before .before .before .before .before .after .ensures) i)) (a .board .now))
+    ∙ (λ i. mark s (a .tug) (runTo (c .before .before .before .before .before .before .before .state-cell .ensures .0 i) (c .before .before .before .before .plain .ensures i) ((c .before .before .before .plain2 .ensures ∙ c .before .before .before .before .before .before .after .ensures) i)) (a .board .now))
 
 pub mark-wait-spec : {M : Type 1} → statement M
 mark-wait-spec =
@@ -47,7 +44,6 @@ mark-wait-spec =
     (tie.spec
     state-cell-requires
     after-requires
-    cast-mark-run
     plain-requires
     plain-requires-2
     mark-run-requires

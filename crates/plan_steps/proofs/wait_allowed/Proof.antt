@@ -39,9 +39,6 @@ state-cell-requires : tie.Need-state-cell-requires
 state-cell-requires c κs =
     (known (c .before .before .before .before .before .before .before .before .before .pre .0) .laid, c .before .before .before .before .before .before .before .before .before .pre .1 .state)
 
-cast-run-free : tie.Need-cast-run-free
-cast-run-free c = search needs
-
 plain-requires : tie.Need-plain-requires
 plain-requires c κs = search needs
 
@@ -53,7 +50,7 @@ run-free-requires c κs =
     let k = known (c .before .before .before .before .before .before .before .before .before .before .before .before .pre .0) in
     let inside = k .cell _ (c .before .before .before .before .before .before .before .before .before .before .before .before .pre .1 .state) in
     let late = leb-true (c .before .before .before .before .before .after .result .0) (c .before .before .before .before .before .before .before .before .before .before .before .before .args .sizes .horizon) (sym (c .before .before .before .before .in-time .ensures) ∙ c .before .before .before .if3 .taken) in
-    k .row _ _ (omega (arith, inside, c .before .before .state-cell .ensures)) (omega (arith, late, k .horizon, c .plain2 .ensures))
+    k .row _ _ (omega (arith, inside, c .before .before .state-cell .ensures .0)) (omega (arith, late, k .horizon, c .plain2 .ensures))
 
 returns-3 : tie.Need-returns-3
 returns-3 c =
@@ -62,7 +59,7 @@ returns-3 c =
     let s = siteOf (a .file .now) in
     let f = free s (a .board .now) in
     let inside = k .cell _ (c .before .before .before .before .before .before .before .before .before .before .before .before .before .pre .1 .state) in
-    let cell = c .before .before .before .state-cell .ensures in
+    let cell = c .before .before .before .state-cell .ensures .0 in
     let last = c .before .before .before .before .before .before .after .ensures in
     let stand = sym (c .before .before .before .before .before .before .before .before .state-speed .ensures) ∙ c .before .before .before .before .before .before .before .if2 .left in
     c .run-free .ensures s (k .horizon) (omega (arith, inside, cell))
@@ -85,7 +82,6 @@ wait-allowed-spec =
     after-requires
     in-time-requires
     state-cell-requires
-    cast-run-free
     plain-requires
     plain-requires-2
     run-free-requires

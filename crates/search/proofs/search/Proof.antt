@@ -15,13 +15,13 @@ use Rattle.search.proofs.search.Tie as tie
 -- ---- the places that the answers look back to, from where all sets but the reached pairs are there
 
 abbrev start : tie.After-allowed3 → tie.Start
-start e = e .before .before .before .before .before .before .before .before .before .before .before .before .before .before .before
+start e = e .before .before .before .before .before .before .before .before .before .before .before .before .before .before
 
 abbrev states : tie.After-allowed3 → tie.After-decode-states
-states e = e .before .before .before .before .before .before .before .before .before .before .before .before
+states e = e .before .before .before .before .before .before .before .before .before .before .before
 
 abbrev moves : tie.After-allowed3 → tie.After-decode-moves
-moves e = e .before .before .before .before .before .before .before .before .before .before .before
+moves e = e .before .before .before .before .before .before .before .before .before .before
 
 abbrev frees : tie.After-allowed3 → tie.After-free-rows
 frees e = e .before .before .before .before .before .before .before .before .before
@@ -72,12 +72,9 @@ decode-moves-requires c κs =
     let b = c .before .before .before in
     (b .pre .read, ap (λ (k : Sizes). k .start) (b .pre .says))
 
-cast-free-rows : tie.Need-cast-free-rows
-cast-free-rows c = search needs
-
 free-rows-requires : tie.Need-free-rows-requires
 free-rows-requires c κs =
-    let b = c .before .before .before .before .before in
+    let b = c .before .before .before .before in
     board-fits _ (b .args .board .now) _ _ _ _ (b .pre)
 
 slice-aggregate-allow-all : tie.Need-slice-aggregate-allow-all
@@ -91,8 +88,8 @@ slice-aggregate-allow-all-3 c = search needs
 
 allow-all-requires : tie.Need-allow-all-requires
 allow-all-requires c κs =
-    let b = c .before .before .before .before .before .before .before .before .before in
-    let mv = c .before .before .before .before .before .decode-moves in
+    let b = c .before .before .before .before .before .before .before .before in
+    let mv = c .before .before .before .before .decode-moves in
     let board = b .args .board .now in
     let few = ranges-at b .motions-few in (
       (ones-long 32000 (b .args .layout .motions) (omega (arith, few)), omega (arith, c .before .before .before .free-rows .ok)),
@@ -135,13 +132,13 @@ returns c =
     missing _ (b .args .board .now) _ _ _ _ (b .pre) _ _ _ _ _ (sets-there x) (a .arrival .result) (a .arrival .ensures .1) _ (c .if1 .taken)
 
 slice-aggregate-trace-back : tie.Need-slice-aggregate-trace-back
-slice-aggregate-trace-back c = sym (c .before .before .before .before .before .before .before .before .before .before .before .before .before .before .before .before .before .before .decode-states .ok .1 .0 .1)
+slice-aggregate-trace-back c = sym (c .before .before .before .before .before .before .before .before .before .before .before .before .before .before .before .before .before .decode-states .ok .1 .0 .1)
 
 slice-aggregate-trace-back-2 : tie.Need-slice-aggregate-trace-back-2
-slice-aggregate-trace-back-2 c = sym (c .before .before .before .before .before .before .before .before .before .before .before .before .before .before .before .before .before .before .decode-moves .ok .1 .0 .1)
+slice-aggregate-trace-back-2 c = sym (c .before .before .before .before .before .before .before .before .before .before .before .before .before .before .before .before .before .decode-moves .ok .1 .0 .1)
 
 slice-aggregate-trace-back-3 : tie.Need-slice-aggregate-trace-back-3
-slice-aggregate-trace-back-3 c = search needs
+slice-aggregate-trace-back-3 c = sym (c .before .before .before .before .before .before .before .before .before .before .before .before .before .before .before .before .before .free-rows .ok .1 .0 .1)
 
 slice-aggregate-trace-back-4 : tie.Need-slice-aggregate-trace-back-4
 slice-aggregate-trace-back-4 c = search needs
@@ -183,7 +180,6 @@ search-spec =
     (tie.spec
     decode-states-requires
     decode-moves-requires
-    cast-free-rows
     free-rows-requires
     slice-aggregate-allow-all
     slice-aggregate-allow-all-2

@@ -37,7 +37,7 @@ put-state-requires : tie.Need-put-state-requires Inv-loop μ-loop
 put-state-requires c κs =
     let b = c .before .before .before .before .before .before in
     let few = well (b .args .file .now) (b .pre .0) .states-range .1 in
-    omega arith
+    (omega arith, c .before .before .state-cell .ensures .1)
 
 add-s : tie.Need-add-s Inv-loop μ-loop
 add-s c = omega arith
@@ -60,7 +60,7 @@ loop-again c =
       omega arith,
       ap length put ∙ two-length old (s * 2) (cell .result) (speed .result) ∙ size,
       subst (λ (xs : List ℕ). (k : ℕ) → k < s + 1 → StateHeld f k (cellAt xs k) (speedAt xs k)) (sym put)
-          (states-more (StateHeld f) old s (cell .result) (speed .result) (omega arith) (l .inv .2) (cell .ensures, speed .ensures)),
+          (states-more (StateHeld f) old s (cell .result) (speed .result) (omega arith) (l .inv .2) (cell .ensures .0, speed .ensures)),
     )
 
 returns : tie.Need-returns Inv-loop μ-loop

@@ -55,7 +55,7 @@ returns c =
     let ws = sweepsAt f (m .first) (m .count) in
     let t : motionGood (siteOf f) (motionOf (fieldAt f (a .at))) ≡ sweepsGood (a .cells) (c .before .before .state-cell .result) (c .before .state-cell2 .result) (m .span) ws =
     motion-test f (siteOf f) (motionOf (fieldAt f (a .at))) m _ _ (r .ensures) (p .1 .0) (p .1 .1)
-    ∙ simp (e, sym (c .before .before .state-cell .ensures), sym (c .before .state-cell2 .ensures)) in
+    ∙ simp (e, sym (c .before .before .state-cell .ensures .0), sym (c .before .state-cell2 .ensures .0)) in
     c .sweeps-pass .ensures ∙ sym t
 
 returns-2 : tie.Need-returns-2

@@ -38,7 +38,7 @@ loop-again c =
     let p = c .before .before .before .before .before .pre .1 in
     let l = c .before .before .before .loop in
     let xs = siteOf (a .file .now) .states in
-    let e = ap (λ (k : ℕ). ltb k (a .cells)) (sym (c .before .state-cell .ensures)) ∙ lt-ltb _ _ (c .if1 .taken) in
+    let e = ap (λ (k : ℕ). ltb k (a .cells)) (sym (c .before .state-cell .ensures .0)) ∙ lt-ltb _ _ (c .if1 .taken) in
     (search needs, sym (rest-hit (cellGood (a .cells)) noState xs (l .i) (omega arith) e) ∙ l .inv .1)
 
 returns : tie.Need-returns Inv-loop μ-loop
@@ -47,7 +47,7 @@ returns c =
     let p = c .before .before .before .before .before .pre .1 in
     let l = c .before .before .before .loop in
     let xs = siteOf (a .file .now) .states in
-    let e = ap (λ (k : ℕ). ltb k (a .cells)) (sym (c .before .state-cell .ensures)) ∙ le-ltb _ _ (c .if1 .left) in
+    let e = ap (λ (k : ℕ). ltb k (a .cells)) (sym (c .before .state-cell .ensures .0)) ∙ le-ltb _ _ (c .if1 .left) in
     sym (rest-miss (cellGood (a .cells)) noState xs (l .i) (omega arith) e) ∙ l .inv .1
 
 returns-2 : tie.Need-returns-2 Inv-loop μ-loop

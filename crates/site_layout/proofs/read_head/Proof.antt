@@ -1,12 +1,9 @@
 -- `site_layout::read_head` meets its contract.
 -- Assumes nothing.
-use Prim.Native.Nat.{ℕ, _+_}
-use mathlib.Core.Path.{sym, ap, _∙_}
-use lib.ListN.{getD}
-use Rattle.meaning.specs.Basics.{u16At}
+use mathlib.Core.Path.{ap, _∙_}
 use Rattle.meaning.specs.Fields.{complete}
 use Rattle.fields.proofs.Laws.{whole-at}
-use Rattle.site_layout.proofs.Laws.{head-here, header-places}
+use Rattle.site_layout.proofs.Laws.{head-here, head-read}
 use native.Mathlib.Omega.{arith}
 use borrow.Author.Needs.{needs}
 use Rattle.site_layout.proofs.read_head.Statement.{statement}
@@ -15,30 +12,23 @@ use Rattle.site_layout.proofs.read_head.Tie as tie
 header-at-requires : tie.Need-header-at-requires
 header-at-requires c κs =
     let f = c .before .args .file .now in
-    let x = head-here f (c .before .pre .0) (c .before .pre .1) in
-    let l = x .long in
-    (ap complete (whole-at f) ∙ c .before .pre .0, omega arith)
+    let p = c .before .pre in
+    (ap complete (whole-at f) ∙ p .0, omega (arith, head-here f (p .0) (p .1) .long))
 
 number-at-requires : tie.Need-number-at-requires
 number-at-requires c κs =
     let f = c .before .before .args .file .now in
-    let x = head-here f (c .before .before .pre .0) (c .before .before .pre .1) in
-    let p = header-places f x _ (c .header-at .ensures .0) in
-    let s = p .0 in
-    let l = x .long in
-    omega arith
+    let p = c .before .before .pre in
+    omega (arith, head-read f (head-here f (p .0) (p .1)) _ (c .header-at .ensures .0) .inside)
 
-add-t5 : tie.Need-add-t5
-add-t5 c = search needs
+add-byte-at : tie.Need-add-byte-at
+add-byte-at c = search needs
 
-shared-slice-read-t7 : tie.Need-shared-slice-read-t7
-shared-slice-read-t7 c =
-    let f = c .before .before .before .before .args .file .now in
-    let x = head-here f (c .before .before .before .before .pre .0) (c .before .before .before .before .pre .1) in
-    let p = header-places f x _ (c .before .before .header-at .ensures .0) in
-    let s = p .0 in
-    let l = x .long in
-    omega arith
+byte-at-requires : tie.Need-byte-at-requires
+byte-at-requires c κs =
+    let f = c .before .before .before .args .file .now in
+    let p = c .before .before .before .pre in
+    omega (arith, head-read f (head-here f (p .0) (p .1)) _ (c .before .header-at .ensures .0) .inside)
 
 add-number-at : tie.Need-add-number-at
 add-number-at c = search needs
@@ -46,23 +36,19 @@ add-number-at c = search needs
 number-at-requires-2 : tie.Need-number-at-requires-2
 number-at-requires-2 c κs =
     let f = c .before .before .before .before .args .file .now in
-    let x = head-here f (c .before .before .before .before .pre .0) (c .before .before .before .before .pre .1) in
-    let p = header-places f x _ (c .before .before .header-at .ensures .0) in
-    let s = p .0 in
-    let l = x .long in
-    omega arith
+    let p = c .before .before .before .before .pre in
+    omega (arith, head-read f (head-here f (p .0) (p .1)) _ (c .before .before .header-at .ensures .0) .inside)
 
 returns : tie.Need-returns
 returns c =
     let f = c .before .before .before .before .before .args .file .now in
-    let x = head-here f (c .before .before .before .before .before .pre .0) (c .before .before .before .before .before .pre .1) in
-    let p = header-places f x _ (c .before .before .before .header-at .ensures .0) in
-    let s = p .0 in
+    let p = c .before .before .before .before .before .pre in
+    let x = head-read f (head-here f (p .0) (p .1)) _ (c .before .before .before .header-at .ensures .0) in
     record {
-      horizon = c .before .before .number-at .ensures .0 ∙ ap (u16At f) s ∙ sym (x .horizon);
-      cells = ap (λ (k : ℕ). getD f (k + 2) 0) s ∙ sym (x .cells);
-      states = c .number-at2 .ensures .0 ∙ ap (λ (k : ℕ). u16At f (k + 3)) s ∙ sym (x .count);
-      start = p .1;
+      horizon = c .before .before .number-at .ensures .0 ∙ x .horizon;
+      cells = c .before .byte-at .ensures .0 ∙ x .cells;
+      states = c .number-at2 .ensures .0 ∙ x .count;
+      start = x .next;
     }
 
 pub read-head-spec : {M : Type 1} → statement M
@@ -71,8 +57,8 @@ read-head-spec =
     (tie.spec
     header-at-requires
     number-at-requires
-    add-t5
-    shared-slice-read-t7
+    add-byte-at
+    byte-at-requires
     add-number-at
     number-at-requires-2
     returns)

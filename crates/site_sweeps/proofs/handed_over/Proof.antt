@@ -1,31 +1,28 @@
--- `site_sweeps::handed_over` meets its contract.
+-- `site_sweeps::handed_over` meets its contract. The invariant: the sweeps from i on answer as all do.
 -- Assumes nothing.
-use mathlib.Core.Bool.{true, false}
-use mathlib.Core.Path.{_≡_, refl, sym, _∙_}
+use Prim.Native.Nat.{_-_}
+use mathlib.Core.Path.{_≡_, sym, ap, _∙_}
 use borrow.Author.Needs.{needs}
-use Prim.Native.Nat.{_≤_, _+_, _*_}
-use lib.ListN.{length}
 use Rattle.meaning.specs.Basics.{any}
 use Rattle.meaning.specs.Site.{carries, handover}
-use Rattle.site_sweeps.specs.Places.{sweepAt, sweepsAt}
-use Rattle.site_sweeps.proofs.Laws.{any-none, any-hit, any-miss}
+use Rattle.site_sweeps.specs.Places.{sweepsAt}
+use Rattle.site_sweeps.proofs.Laws.{restAt, rest-whole, read-test, any-none, any-hit, any-miss}
 use native.Mathlib.Omega.{arith}
 use Rattle.site_sweeps.proofs.handed_over.Statement.{statement}
 use Rattle.site_sweeps.proofs.handed_over.Tie as tie
 
 abbrev Inv-loop : tie.InvT-loop
-Inv-loop file at count j p₀ left₀ p left =
-    (p + 3 * left ≤ length file)
-    × (any (carries (sweepsAt file at count) j) (sweepsAt file p left) ≡ any (carries (sweepsAt file at count) j) (sweepsAt file at count))
+Inv-loop file at count j i₀ i =
+    any (carries (sweepsAt file at count) j) (restAt file at count i) ≡ any (carries (sweepsAt file at count) j) (sweepsAt file at count)
 
 abbrev μ-loop : tie.MeasureT-loop
-μ-loop file at count j p₀ left₀ p left = left
+μ-loop file at count j i₀ i = count - i
 
 loop-holds : tie.Need-loop-holds Inv-loop μ-loop
-loop-holds c = (search needs, refl)
+loop-holds c = ap (any (carries _ _)) (rest-whole _ _ _)
 
-shared-slice-read-carried : tie.Need-shared-slice-read-carried Inv-loop μ-loop
-shared-slice-read-carried c = search needs
+read-sweep-requires : tie.Need-read-sweep-requires Inv-loop μ-loop
+read-sweep-requires c κs = search needs
 
 carried-requires : tie.Need-carried-requires Inv-loop μ-loop
 carried-requires c κs = search needs
@@ -35,16 +32,12 @@ unfolding handover
 returns c =
     let a = c .before .before .before .before .before .before .args in
     let l = c .before .before .before .before .loop in
-    let f = a .file .now in
-    let s = sweepsAt f (a .at) (a .count) in
-    let e : carries s (a .j) (sweepAt f (l .p)) ≡ true = sym (c .before .carried .ensures) ∙ c .if1 .taken in
-    sym (any-hit (carries s (a .j)) f (l .p) (l .left) (omega arith) (omega arith) e) ∙ l .inv .1
+    let p = carries (sweepsAt (a .file .now) (a .at) (a .count)) (a .j) in
+    let e = read-test p (c .before .before .read-sweep .ensures) (c .before .carried .ensures) (c .if1 .taken) in
+    sym (any-hit p (a .file .now) (a .at) (a .count) (l .i) (omega arith) (omega arith) e) ∙ l .inv
 
-add-p : tie.Need-add-p Inv-loop μ-loop
-add-p c = search needs
-
-sub-left : tie.Need-sub-left Inv-loop μ-loop
-sub-left c = search needs
+add-i : tie.Need-add-i Inv-loop μ-loop
+add-i c = search needs
 
 loop-less : tie.Need-loop-less Inv-loop μ-loop
 loop-less c = search needs
@@ -53,18 +46,17 @@ loop-again : tie.Need-loop-again Inv-loop μ-loop
 loop-again c =
     let a = c .before .before .before .before .before .before .args in
     let l = c .before .before .before .before .loop in
-    let f = a .file .now in
-    let s = sweepsAt f (a .at) (a .count) in
-    let e : carries s (a .j) (sweepAt f (l .p)) ≡ false = sym (c .before .carried .ensures) ∙ c .if1 .left in
-    (search needs, sym (any-miss (carries s (a .j)) f (l .p) (l .left) (omega arith) (omega arith) e) ∙ l .inv .1)
+    let p = carries (sweepsAt (a .file .now) (a .at) (a .count)) (a .j) in
+    let e = read-test p (c .before .before .read-sweep .ensures) (c .before .carried .ensures) (c .if1 .left) in
+    sym (any-miss p (a .file .now) (a .at) (a .count) (l .i) (omega arith) (omega arith) e) ∙ l .inv
 
 returns-2 : tie.Need-returns-2 Inv-loop μ-loop
 unfolding handover
 returns-2 c =
     let a = c .before .before .before .args in
     let l = c .before .loop in
-    let s = sweepsAt (a .file .now) (a .at) (a .count) in
-    sym (any-none (carries s (a .j)) (a .file .now) (l .p) (l .left) (omega arith)) ∙ l .inv .1
+    let p = carries (sweepsAt (a .file .now) (a .at) (a .count)) (a .j) in
+    sym (any-none p (a .file .now) (a .at) (a .count) (l .i) (omega arith)) ∙ l .inv
 
 pub handed-over-spec : {M : Type 1} → statement M
 handed-over-spec =
@@ -73,11 +65,10 @@ handed-over-spec =
     Inv-loop
     μ-loop
     loop-holds
-    shared-slice-read-carried
+    read-sweep-requires
     carried-requires
     returns
-    add-p
-    sub-left
+    add-i
     loop-less
     loop-again
     returns-2)
