@@ -1,2 +1,4 @@
-pub mod Laws
-pub mod Uses
+pub mod SortLaws
+pub mod EditionLaws
+pub mod HolderLaws
+pub mod TickLaws

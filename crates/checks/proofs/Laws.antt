@@ -23,7 +23,7 @@ use Rattle.site.specs.Check.{checkOf, sizesOf}
 use Rattle.site.specs.declared.Sizes.{Sizes}
 use Rattle.site.specs.declared.Check.the-variants as Check
 use Rattle.site.proofs.Accepted.{accepted-read, accepted-layout, refused-read}
-use Rattle.board.proofs.Uses.{edition-clear, next-mark, next-clear}
+use Rattle.board.proofs.EditionLaws.{edition-clear, next-mark, next-clear}
 use Rattle.site.specs.declared.Check.the-variants.{Passed, Refused}
 use Rattle.checks.specs.Checks.{byNumber, checkBy, Says}
 

@@ -21,7 +21,7 @@ use Rattle.meaning.proofs.BoardLaws.{edition-small}
 use Rattle.site.specs.Check.{sizesOf}
 use Rattle.site.specs.declared.Sizes.{Sizes}
 use Rattle.board.specs.Runs.{Row}
-use Rattle.board.proofs.Uses.{row-on}
+use Rattle.board.proofs.TickLaws.{row-on}
 use Rattle.site.specs.declared.Check.the-variants.{Passed}
 use Rattle.checks.specs.Checks.{checkBy, Says, Sized}
 use Rattle.checks.proofs.Laws.{passed-number, named-cell, named-last}

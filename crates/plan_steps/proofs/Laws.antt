@@ -25,7 +25,7 @@ use Rattle.site.specs.declared.Motion as ReadMotion
 use Rattle.site.specs.Motions.{MotionIs}
 use Rattle.site.proofs.Accepted.{read-laid}
 use Rattle.board.specs.Runs.{Row}
-use Rattle.board.proofs.Uses.{row-on}
+use Rattle.board.proofs.TickLaws.{row-on}
 use Rattle.plan_steps.specs.Ready.{Ready, Sweeps, Swept}
 
 -- ---- a file that is ready

@@ -5,7 +5,7 @@ use mathlib.Core.Path.{_≡_, sym, _∙_}
 use lib.ListN.{length, length-set}
 use Rattle.meaning.specs.Limits.{header}
 use Rattle.meaning.specs.Board.{clear}
-use Rattle.board.proofs.Laws.{clearFrom, clear-next, clear-end}
+use Rattle.board.proofs.HolderLaws.{clearFrom, clear-next, clear-end}
 use borrow.Author.Needs.{needs}
 use native.Mathlib.Omega.{arith}
 use Rattle.board.proofs.clear_holder.Statement.{statement}

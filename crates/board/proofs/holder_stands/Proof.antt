@@ -10,7 +10,7 @@ use Rattle.meaning.specs.Limits.{header}
 use Rattle.meaning.specs.Basics.{any}
 use Rattle.meaning.specs.Board.{isHolder}
 use Rattle.meaning.proofs.BasicsLaws.{any-nil}
-use Rattle.board.proofs.Laws.{any-more, stands-any}
+use Rattle.board.proofs.HolderLaws.{any-more, stands-any}
 use borrow.Author.Needs.{needs}
 use native.Mathlib.Omega.{arith}
 use Rattle.board.proofs.holder_stands.Statement.{statement}

@@ -5,7 +5,7 @@ use mathlib.Core.Bool.{true, false}
 use mathlib.Core.List.{[], _∷_}
 use borrow.Author.Needs.{needs}
 use Rattle.meaning.specs.Board.{closureSort, isClosure}
-use Rattle.board.proofs.Laws.{arm}
+use Rattle.board.proofs.SortLaws.{arm}
 use Rattle.board.proofs.is_closure.Statement.{statement}
 use Rattle.board.proofs.is_closure.Tie as tie
 

@@ -3,7 +3,7 @@
 use native.Mathlib.Omega.{arith}
 use mathlib.Core.Path.{_∙_}
 use borrow.Author.Needs.{needs}
-use Rattle.board.proofs.Laws.{free-byte}
+use Rattle.board.proofs.TickLaws.{free-byte}
 use Rattle.board.proofs.is_free.Statement.{statement}
 use Rattle.board.proofs.is_free.Tie as tie
 

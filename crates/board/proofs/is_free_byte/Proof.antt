@@ -4,7 +4,7 @@ use mathlib.Core.Path.{refl, _∙_}
 use mathlib.Core.Bool.{true, false}
 use mathlib.Core.List.{[], _∷_}
 use borrow.Author.Needs.{needs}
-use Rattle.board.proofs.Laws.{arm, freeSort, free-sort}
+use Rattle.board.proofs.SortLaws.{arm, freeSort, free-sort}
 use Rattle.board.proofs.is_free_byte.Statement.{statement}
 use Rattle.board.proofs.is_free_byte.Tie as tie
 

@@ -6,7 +6,7 @@ use lib.ListN.{length, set, length-set}
 use Rattle.meaning.specs.Limits.{header}
 use Rattle.meaning.specs.Site.{Site}
 use Rattle.meaning.specs.Board.{mark, runTo}
-use Rattle.board.proofs.Laws.{mark-next, mark-end}
+use Rattle.board.proofs.TickLaws.{mark-next, mark-end}
 use borrow.Author.Needs.{needs}
 use native.Mathlib.Omega.{arith}
 use Rattle.board.proofs.mark_run.Statement.{statement}

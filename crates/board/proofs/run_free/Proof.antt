@@ -7,7 +7,7 @@ use borrow.Author.Tests.{not-true, not-false}
 use Rattle.meaning.specs.Site.{Site}
 use Rattle.meaning.specs.Board.{free}
 use Rattle.meaning.specs.Plan.{freeFromTo}
-use Rattle.board.proofs.Laws.{free-turn, free-end}
+use Rattle.board.proofs.TickLaws.{free-turn, free-end}
 use borrow.Author.Needs.{needs}
 use native.Mathlib.Omega.{arith}
 use Rattle.board.proofs.run_free.Statement.{statement}

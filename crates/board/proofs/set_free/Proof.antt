@@ -2,10 +2,10 @@
 -- Assumes nothing.
 use Prim.Native.Nat.{ℕ, _≤_, _-_}
 use mathlib.Core.Path.{_≡_, ap, _∙_}
-use mathlib.Core.List.{List, _++_}
+use mathlib.Core.List.{List, _++_, append-nil}
 use lib.ListN.{length, replicate, drop, set, length-set}
 use borrow.Author.Fill.{fill-more}
-use Rattle.board.proofs.Laws.{full}
+use lib.Seq.{drop-length}
 use borrow.Author.Needs.{needs}
 use native.Mathlib.Omega.{arith}
 use Rattle.board.proofs.set_free.Statement.{statement}
@@ -42,7 +42,10 @@ same-length : tie.Need-same-length Inv-loop μ-loop
 same-length c = search needs
 
 returns : tie.Need-returns Inv-loop μ-loop
-returns c = c .before .loop .inv .2 ∙ full (c .before .loop .i) 0 (c .before .before .args .board .now) (omega arith)
+returns c =
+    let old = c .before .before .args .board .now in
+    let end : c .before .loop .i ≡ length old = omega arith in
+    c .before .loop .inv .2 ∙ rw end (rw (drop-length old) (append-nil _))
 
 pub set-free-spec : {M : Type 1} → statement M
 set-free-spec =

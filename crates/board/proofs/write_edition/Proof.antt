@@ -3,7 +3,7 @@
 use Prim.Native.Nat.{_/_, _%_}
 use lib.ListN.{length-set}
 use Rattle.meaning.specs.Board.{withEdition}
-use Rattle.board.proofs.Laws.{front}
+use Rattle.board.proofs.EditionLaws.{front}
 use native.Mathlib.Omega.{arith}
 use borrow.Author.Needs.{needs}
 use Rattle.board.proofs.write_edition.Statement.{statement}

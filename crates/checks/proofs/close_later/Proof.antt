@@ -10,7 +10,7 @@ use Rattle.meaning.specs.Site.{Site}
 use Rattle.meaning.specs.Board.{isClosure, edition, stands, free, runTo, allFree}
 use Rattle.meaning.specs.Calls.{runNamed, bytesView, closeRefusals}
 use Rattle.meaning.proofs.CheckLaws.{hit, miss, none-left}
-use Rattle.board.proofs.Uses.{row-on, run-to-free}
+use Rattle.board.proofs.TickLaws.{row-on, run-to-free}
 use Rattle.checks.specs.Checks.{Says}
 use Rattle.checks.proofs.Laws.{told, sketch, sketched, named-cell, named-last}
 use Rattle.checks.proofs.close_later.Statement.{statement}

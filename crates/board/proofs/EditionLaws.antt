@@ -1,35 +1,22 @@
--- What callers of this crate's functions cite: what the functions ask, from a site, and their answers in the words of the calls.
+-- The edition: its four bytes written, and the next one, read before or after a change.
 -- Assumes nothing.
-use Prim.Native.Nat.{ℕ, suc, _+_, _≤_, _<_, _-_}
+use Prim.Native.Nat.{ℕ, _+_, _≤_}
 use native.Mathlib.Omega.{arith}
 use mathlib.Core.Path.{_≡_, ap, _∙_}
 use mathlib.Core.Bool.{cond}
-use mathlib.Core.List.{List, map}
+use mathlib.Core.List.{List, [], _∷_, _++_, map}
 use lib.Dec.{eqb}
-use lib.ListN.{length, take, drop, List·getD-append}
-use lib.Seq.{length-take-le, getD-take}
-use Rattle.meaning.specs.Limits.{horizonLimit, header}
+use lib.ListN.{length, take, drop, set, List·getD-append}
+use lib.Seq.{sets-eq, length-take-le, getD-take}
+use Rattle.meaning.specs.Limits.{header}
 use Rattle.meaning.specs.Site.{Site}
-use Rattle.meaning.specs.Board.{Free, Pair, boardLength, edition, allFree, runTo, mark, clear, withEdition, nextEdition}
-use Rattle.meaning.specs.Plan.{freeFromTo}
-use Rattle.meaning.proofs.BoardLaws.{place-in, same-edition, edition-mark}
-use Rattle.meaning.proofs.PlanLaws.{run-free}
-use Rattle.board.specs.Runs.{Row}
+use Rattle.meaning.specs.Board.{mark, Pair, edition, clear, withEdition, nextEdition}
+use Rattle.meaning.proofs.BoardLaws.{same-edition, edition-mark}
 
--- ---- a tick of the site is on its board
+-- ---- four stores at the front
 
-pub row-on : (site : Site) (size cell tick : ℕ) → size ≡ boardLength site → site .horizon ≤ horizonLimit → cell < site .cells → tick ≤ site .horizon
-    → Row size (site .horizon) cell tick
-row-on site size cell tick e short hc ht = record {
-  short = short;
-  in-time = ht;
-  on-board = omega (arith, place-in site cell (site .horizon) hc (omega arith));
-}
-
--- ---- the pairs of a run are free where its ticks are
-
-pub run-to-free : (f : Free) (c first last : ℕ) → allFree f (runTo c first last) ≡ freeFromTo f c first last
-run-to-free f c first last = run-free f c first (suc last - first)
+pub front : (l : List ℕ) (a b c d : ℕ) → 4 ≤ length l → set (set (set (set l 0 a) 1 b) 2 c) 3 d ≡ (a ∷ b ∷ c ∷ d ∷ []) ++ drop 4 l
+front l a b c d h = sets-eq (a ∷ b ∷ c ∷ d ∷ []) l 0 h
 
 -- ---- the next edition, read before or after a change
 
