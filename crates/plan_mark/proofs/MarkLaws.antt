@@ -57,12 +57,12 @@ module _ (site : Site) (h : ℕ) (file : List ℕ) (at n t : ℕ) where
 -- ---- a light's steps from a place on
 
 pub record Marking (file : List ℕ) (h : ℕ) (light : List ℕ) (first : ℕ) (start : Node) (old : List ℕ) (at : ℕ) (here : Node) (board : List ℕ) : Type 0 where
+  pub rest : mark (siteOf file) h (walkPairs (siteOf file) (stepsFrom light at) (nodeOf here)) board
+      ≡ mark (siteOf file) h (walkPairs (siteOf file) (stepsFrom light first) (nodeOf start)) old
   pub room : length board ≡ length old
   pub laid : laidFrom true light at ≡ true
   pub known : Here file here
   pub in-time : InTime (siteOf file) (stepsFrom light at) (nodeOf here)
-  pub rest : mark (siteOf file) h (walkPairs (siteOf file) (stepsFrom light at) (nodeOf here)) board
-      ≡ mark (siteOf file) h (walkPairs (siteOf file) (stepsFrom light first) (nodeOf start)) old
 
 module _ {file : List ℕ} {h : ℕ} {light : List ℕ} {first : ℕ} {start : Node} {old : List ℕ} {at : ℕ} {here : Node} {board : List ℕ}
     (w : Marking file h light first start old at here board) where

@@ -24,7 +24,7 @@ abbrev μ-loop : tie.MeasureT-loop
 loop-holds : tie.Need-loop-holds Inv-loop μ-loop
 loop-holds c =
     let p = c .before .before .before .pre in
-    record { room = refl; laid = p .1 .0; known = p .0 .2; in-time = p .1 .1; rest = refl }
+    record { rest = refl; room = refl; laid = p .1 .0; known = p .0 .2; in-time = p .1 .1 }
 
 step-at-requires : tie.Need-step-at-requires Inv-loop μ-loop
 step-at-requires c κs = search needs
