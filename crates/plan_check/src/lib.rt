@@ -22,15 +22,15 @@ ghost use Rattle.site.specs.Check.{sizesOf};
 ghost use Rattle.site.specs.Motions.{Index};
 ghost use Rattle.plan_steps.specs.Ready.{Ready};
 ghost use Rattle.plan_steps.specs.Nodes.{nodeOf, Here};
-ghost use Rattle.plan_check.specs.Walks.{wentCase, startIn};
+ghost use Rattle.plan_check.specs.Walks.{walkEndCase, startIn};
 
 // Where the first step of a light starts: its head has 16 bytes.
 pub const FIRST_STEP: usize = 16;
 
-// Where a walk leads: to a node, or nowhere, where one of its steps is not allowed.
-pub enum Went {
-    To(Node),
-    Nowhere,
+// How a walk ends: at a node, or at a step that is not allowed.
+enum WalkEnd {
+    At(Node),
+    NotAllowed,
 }
 
 // A plan may start at `a`: its state and its tick are the site's, and its cell is free then.
@@ -42,9 +42,9 @@ fn start_free(file: &[u8], board: &[u8], sizes: Sizes, a: Node) -> bool
     if sizes.states <= state {
         return false;
     }
-    if plan_steps::in_time(a.tick, sizes) {
+    if time::in_time(a.tick, sizes.horizon) {
         let cell = site::state_cell(file, state);
-        board::is_free(board, sizes.horizon, cell, plan_steps::plain(a.tick))
+        board::is_free(board, sizes.horizon, cell, time::number(a.tick))
     } else {
         false
     }
@@ -79,10 +79,10 @@ fn walk_steps(
     light: &[u8],
     first: usize,
     start: Node,
-) -> Went
+) -> WalkEnd
     requires { ⌜ Ready (now file) (length (now board)) sizes × Index (now file) (now index) × Here (now file) start ⌝ }
     requires { ⌜ laidFrom true (now light) first ≡ true ⌝ }
-    ensures { λ r. ⌜ wentCase r ≡ walk (siteOf (now (file .entry))) (free (siteOf (now (file .entry))) (now (board .entry))) (stepsFrom (now (light .entry)) first) (nodeOf start) ⌝ }
+    ensures { λ r. ⌜ walkEndCase r ≡ walk (siteOf (now (file .entry))) (free (siteOf (now (file .entry))) (now (board .entry))) (stepsFrom (now (light .entry)) first) (nodeOf start) ⌝ }
 {
     let mut at = first;
     let mut here = start;
@@ -91,24 +91,24 @@ fn walk_steps(
             Step::Wait(n, next) => {
                 let span = Span(n as u32);
                 if !plan_steps::wait_allowed(file, board, sizes, here, span) {
-                    return Went::Nowhere;
+                    return WalkEnd::NotAllowed;
                 }
                 here = plan_steps::after_wait(here, span);
                 at = next;
             }
             Step::Move(k, next) => {
                 if sizes.motions <= k as usize {
-                    return Went::Nowhere;
+                    return WalkEnd::NotAllowed;
                 }
                 let m = site::motion_at(file, index, k as usize);
                 if !plan_steps::move_allowed(file, board, sizes, m, here) {
-                    return Went::Nowhere;
+                    return WalkEnd::NotAllowed;
                 }
                 here = plan_steps::after_move(m, here.tick);
                 at = next;
             }
-            Step::End => return Went::To(here),
-            Step::Wrong => return Went::Nowhere,
+            Step::End => return WalkEnd::At(here),
+            Step::Wrong => return WalkEnd::NotAllowed,
         }
     }
 }
@@ -128,8 +128,8 @@ pub fn light_valid(
     let start = start_of(head);
     if start_free(file, board, sizes, start) {
         match walk_steps(file, board, sizes, index, light, FIRST_STEP, start) {
-            Went::To(b) => at_goal(b, head),
-            Went::Nowhere => false,
+            WalkEnd::At(b) => at_goal(b, head),
+            WalkEnd::NotAllowed => false,
         }
     } else {
         false
@@ -168,8 +168,8 @@ fn head_named(sizes: Sizes, head: Head) -> bool
     if sizes.states <= head.goal as usize {
         return false;
     }
-    if plan_steps::in_time(start.tick, sizes) {
-        plan_steps::in_time(Tick(head.arrival as u32), sizes)
+    if time::in_time(start.tick, sizes.horizon) {
+        time::in_time(Tick(head.arrival as u32), sizes.horizon)
     } else {
         false
     }

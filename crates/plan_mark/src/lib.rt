@@ -33,8 +33,8 @@ fn mark_sweep(file: &[u8], board: &mut [u8], sizes: Sizes, w: Sweep, t: Tick, tu
         board,
         sizes.horizon,
         w.cell,
-        plan_steps::plain(first),
-        plan_steps::plain(last),
+        time::number(first),
+        time::number(last),
         tug,
     );
 }
@@ -72,8 +72,8 @@ fn mark_wait(file: &[u8], board: &mut [u8], sizes: Sizes, a: Node, n: Span, tug:
         board,
         sizes.horizon,
         cell,
-        plan_steps::plain(a.tick),
-        plan_steps::plain(last),
+        time::number(a.tick),
+        time::number(last),
         tug,
     );
 }

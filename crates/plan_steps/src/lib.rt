@@ -6,7 +6,6 @@ use time::Span;
 use time::Tick;
 ghost use mathlib.Core.Path.{_≡_};
 ghost use Prim.Native.Nat.{ℕ, _+_, _<_, _≤_};
-ghost use lib.Dec.{leb};
 ghost use lib.ListN.{length};
 ghost use Rattle.meaning.specs.Site.{siteOf, motionAt};
 ghost use Rattle.meaning.specs.Board.{free};
@@ -22,20 +21,6 @@ pub struct Node {
     pub tick: Tick,
 }
 
-// A moment as the number that names a byte of the board.
-pub fn plain(t: Tick) -> usize
-    ensures { λ r. ⌜ r ≡ t .0 ⌝ }
-{
-    t.0 as usize
-}
-
-// The moment is not past the horizon.
-pub fn in_time(t: Tick, sizes: Sizes) -> bool
-    ensures { λ r. ⌜ r ≡ leb (t .0) (sizes .horizon) ⌝ }
-{
-    plain(t) <= sizes.horizon
-}
-
 // The sweep's cell is free while a motion that starts at `t` uses it.
 fn sweep_free(file: &[u8], board: &[u8], sizes: Sizes, w: Sweep, t: Tick) -> bool
     requires { ⌜ Ready (now file) (length (now board)) sizes × Swept (now file) w (t .0) ⌝ }
@@ -43,7 +28,7 @@ fn sweep_free(file: &[u8], board: &[u8], sizes: Sizes, w: Sweep, t: Tick) -> boo
 {
     let first = time::after(t, Span(w.first as u32));
     let last = time::after(t, Span(w.last as u32));
-    board::run_free(board, sizes.horizon, w.cell, plain(first), plain(last))
+    board::run_free(board, sizes.horizon, w.cell, time::number(first), time::number(last))
 }
 
 // Each swept cell of the motion is free while the motion uses it, where it starts at `t`.
@@ -83,9 +68,9 @@ pub fn wait_allowed(file: &[u8], board: &[u8], sizes: Sizes, a: Node, n: Span) -
         return false;
     }
     let last = time::after(a.tick, n);
-    if in_time(last, sizes) {
+    if time::in_time(last, sizes.horizon) {
         let cell = site::state_cell(file, state);
-        board::run_free(board, sizes.horizon, cell, plain(a.tick), plain(last))
+        board::run_free(board, sizes.horizon, cell, time::number(a.tick), time::number(last))
     } else {
         false
     }
@@ -100,7 +85,7 @@ pub fn move_allowed(file: &[u8], board: &[u8], sizes: Sizes, m: Motion, a: Node)
         return false;
     }
     let end = time::after(a.tick, Span(m.span as u32));
-    if in_time(end, sizes) {
+    if time::in_time(end, sizes.horizon) {
         sweeps_free(file, board, sizes, m, a.tick)
     } else {
         false

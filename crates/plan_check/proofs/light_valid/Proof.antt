@@ -5,7 +5,7 @@ use mathlib.Core.Option.{none}
 use Rattle.meaning.specs.Site.{siteOf}
 use Rattle.meaning.specs.Board.{free}
 use Rattle.light_read.proofs.HeadLaws.{accepted}
-use Rattle.plan_check.specs.Walks.{wentCase}
+use Rattle.plan_check.specs.Walks.{walkEndCase}
 use Rattle.plan_check.proofs.LightLaws.{start-known, valid-off, valid-walk}
 use borrow.Author.Needs.{needs}
 use Rattle.plan_check.proofs.light_valid.Statement.{statement}
@@ -42,7 +42,7 @@ returns c =
     let starts = sym (c .before .before .before .before .before .before .start-free .ensures) ∙ c .before .before .before .before .before .if1 .taken in
     c .at-goal .ensures
     ∙ valid-walk s (free s (a .board .now)) (a .light .now) _ (c .before .before .before .before .before .before .before .before .read-head .ensures) _ (c .before .before .before .before .before .before .before .start-of .ensures) (c .before .before .before .before .before .before .before .before .before .before .before .before .pre .2) starts _
-    (sym (ap wentCase (c .before .before .b .given .1)) ∙ c .before .before .before .before .walk-steps .ensures)
+    (sym (ap walkEndCase (c .before .before .b .given .1)) ∙ c .before .before .before .before .walk-steps .ensures)
 
 returns-2 : tie.Need-returns-2
 returns-2 c =
@@ -50,7 +50,7 @@ returns-2 c =
     let s = siteOf (a .file .now) in
     let starts = sym (c .before .before .before .before .start-free .ensures) ∙ c .before .before .before .if1 .taken in
     valid-walk s (free s (a .board .now)) (a .light .now) _ (c .before .before .before .before .before .before .read-head .ensures) _ (c .before .before .before .before .before .start-of .ensures) (c .before .before .before .before .before .before .before .before .before .before .pre .2) starts none
-    (sym (ap wentCase (c .enum-told .given .1)) ∙ c .before .before .walk-steps .ensures)
+    (sym (ap walkEndCase (c .enum-told .given .1)) ∙ c .before .before .walk-steps .ensures)
 
 returns-3 : tie.Need-returns-3
 returns-3 c =

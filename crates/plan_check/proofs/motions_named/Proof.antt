@@ -52,7 +52,7 @@ returns : tie.Need-returns Inv-loop μ-loop
 returns c =
     λ s e.
     let o = move-on _ _ _ _ (sym (c .before .before .k .given .1) ∙ c .before .before .before .before .step-at .ensures) in
-    sym (named-miss s _ _ _ o e (c .if1 .taken)) ∙ c .before .before .before .before .before .loop .inv .1 s e
+    sym (named-miss s _ _ (c .before .before .before .before .before .before .before .args .motions) o e (omega arith)) ∙ c .before .before .before .before .before .loop .inv .1 s e
 
 loop-less-2 : tie.Need-loop-less-2 Inv-loop μ-loop
 loop-less-2 c =

@@ -24,15 +24,15 @@ state-cell-requires c κs =
     let k = known (c .before .before .before .before .before .before .pre) in
     (k .laid, omega (arith, k .states))
 
-plain-requires : tie.Need-plain-requires
-plain-requires c κs = search needs
+number-requires : tie.Need-number-requires
+number-requires c κs = search needs
 
 is-free-requires : tie.Need-is-free-requires
 is-free-requires c κs =
     let k = known (c .before .before .before .before .before .before .before .before .pre) in
     let inside = k .cell (c .before .before .before .before .before .before .before .before .args .a .state) (omega (arith, k .states)) in
     let late = leb-true (c .before .before .before .before .before .before .before .before .args .a .tick .0) (c .before .before .before .before .before .before .before .before .args .sizes .horizon) (sym (c .before .before .before .in-time .ensures) ∙ c .before .before .if2 .taken) in
-    k .row _ _ (omega (arith, inside, c .before .state-cell .ensures .0)) (omega (arith, late, k .horizon, c .plain .ensures))
+    k .row _ _ (omega (arith, inside, c .before .state-cell .ensures .0)) (omega (arith, late, k .horizon, c .number .ensures))
 
 returns-2 : tie.Need-returns-2
 returns-2 c =
@@ -43,7 +43,7 @@ returns-2 c =
     let cell = c .before .before .state-cell .ensures .0 in
     let inside = k .cell (a .a .state) (omega (arith, k .states)) in
     c .is-free .ensures s (k .horizon) (omega (arith, inside, cell))
-    ∙ (λ i. f (cell i) (c .before .plain .ensures i))
+    ∙ (λ i. f (cell i) (c .before .number .ensures i))
     ∙ sym (start-is s f (nodeOf (a .a)) _ (omega (arith, k .states)) (k .horizon) (sym (c .before .before .before .before .in-time .ensures) ∙ c .before .before .before .if2 .taken))
 
 returns-3 : tie.Need-returns-3
@@ -58,7 +58,7 @@ start-free-spec =
     returns
     in-time-requires
     state-cell-requires
-    plain-requires
+    number-requires
     is-free-requires
     returns-2
     returns-3)

@@ -28,17 +28,17 @@ after-requires-2 c κs =
     let s = c .before .before .before .before .before .pre .1 in
     omega (arith, k .short, s .in-time)
 
-plain-requires : tie.Need-plain-requires
-plain-requires c κs = search needs
+number-requires : tie.Need-number-requires
+number-requires c κs = search needs
 
-plain-requires-2 : tie.Need-plain-requires-2
-plain-requires-2 c κs = search needs
+number-requires-2 : tie.Need-number-requires-2
+number-requires-2 c κs = search needs
 
 mark-run-requires : tie.Need-mark-run-requires
 mark-run-requires c κs =
     let k = known (c .before .before .before .before .before .before .before .before .before .pre .0) in
     let s = c .before .before .before .before .before .before .before .before .before .pre .1 in
-    k .row _ _ (s .known) (omega (arith, s .in-time, c .plain2 .ensures, c .before .before .before .after2 .ensures))
+    k .row _ _ (s .known) (omega (arith, s .in-time, c .number2 .ensures, c .before .before .before .after2 .ensures))
 
 same-length : tie.Need-same-length
 same-length c = search needs
@@ -48,7 +48,7 @@ returns c =
     let a = c .before .before .before .before .before .before .before .before .before .before .before .before .args in
     let s = siteOf (a .file .now) in
     c .before .before .mark-run .ensures s (known (c .before .before .before .before .before .before .before .before .before .before .before .before .pre .0) .horizon)
-    ∙ ap₂ (λ (x y : ℕ). mark s (a .tug) (runTo (a .w .cell) x y) (a .board .now)) (c .before .before .before .before .plain .ensures ∙ c .before .before .before .before .before .before .before .before .after .ensures) (c .before .before .before .plain2 .ensures ∙ c .before .before .before .before .before .before .after2 .ensures)
+    ∙ ap₂ (λ (x y : ℕ). mark s (a .tug) (runTo (a .w .cell) x y) (a .board .now)) (c .before .before .before .before .number .ensures ∙ c .before .before .before .before .before .before .before .before .after .ensures) (c .before .before .before .number2 .ensures ∙ c .before .before .before .before .before .before .after2 .ensures)
 
 pub mark-sweep-spec : {M : Type 1} → statement M
 mark-sweep-spec =
@@ -58,8 +58,8 @@ mark-sweep-spec =
     after-requires
     cast-t9-2
     after-requires-2
-    plain-requires
-    plain-requires-2
+    number-requires
+    number-requires-2
     mark-run-requires
     same-length
     returns)

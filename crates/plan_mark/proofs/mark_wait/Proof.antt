@@ -16,17 +16,17 @@ after-requires : tie.Need-after-requires
 after-requires c κs =
     omega (arith, known (c .before .before .before .pre .0) .short, c .before .before .before .pre .2)
 
-plain-requires : tie.Need-plain-requires
-plain-requires c κs = search needs
+number-requires : tie.Need-number-requires
+number-requires c κs = search needs
 
-plain-requires-2 : tie.Need-plain-requires-2
-plain-requires-2 c κs = search needs
+number-requires-2 : tie.Need-number-requires-2
+number-requires-2 c κs = search needs
 
 mark-run-requires : tie.Need-mark-run-requires
 mark-run-requires c κs =
     let k = known (c .before .before .before .before .before .before .before .pre .0) in
     let inside = k .cell _ (c .before .before .before .before .before .before .before .pre .1 .state) in
-    k .row _ _ (omega (arith, inside, c .before .before .before .before .state-cell .ensures .0)) (omega (arith, c .before .before .before .before .before .before .before .pre .2, c .plain2 .ensures, c .before .before .before .after .ensures))
+    k .row _ _ (omega (arith, inside, c .before .before .before .before .state-cell .ensures .0)) (omega (arith, c .before .before .before .before .before .before .before .pre .2, c .number2 .ensures, c .before .before .before .after .ensures))
 
 same-length : tie.Need-same-length
 same-length c = search needs
@@ -36,7 +36,7 @@ returns c =
     let a = c .before .before .before .before .before .before .before .before .before .before .args in
     let s = siteOf (a .file .now) in
     c .before .before .mark-run .ensures s (known (c .before .before .before .before .before .before .before .before .before .before .pre .0) .horizon)
-    ∙ (λ i. mark s (a .tug) (runTo (c .before .before .before .before .before .before .before .state-cell .ensures .0 i) (c .before .before .before .before .plain .ensures i) ((c .before .before .before .plain2 .ensures ∙ c .before .before .before .before .before .before .after .ensures) i)) (a .board .now))
+    ∙ (λ i. mark s (a .tug) (runTo (c .before .before .before .before .before .before .before .state-cell .ensures .0 i) (c .before .before .before .before .number .ensures i) ((c .before .before .before .number2 .ensures ∙ c .before .before .before .before .before .before .after .ensures) i)) (a .board .now))
 
 pub mark-wait-spec : {M : Type 1} → statement M
 mark-wait-spec =
@@ -44,8 +44,8 @@ mark-wait-spec =
     (tie.spec
     state-cell-requires
     after-requires
-    plain-requires
-    plain-requires-2
+    number-requires
+    number-requires-2
     mark-run-requires
     same-length
     returns)

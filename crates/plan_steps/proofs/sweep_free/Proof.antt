@@ -29,17 +29,17 @@ after-requires-2 c κs =
     let s = c .before .before .before .before .before .pre .1 in
     omega (arith, k .short, s .in-time)
 
-plain-requires : tie.Need-plain-requires
-plain-requires c κs = search needs
+number-requires : tie.Need-number-requires
+number-requires c κs = search needs
 
-plain-requires-2 : tie.Need-plain-requires-2
-plain-requires-2 c κs = search needs
+number-requires-2 : tie.Need-number-requires-2
+number-requires-2 c κs = search needs
 
 run-free-requires : tie.Need-run-free-requires
 run-free-requires c κs =
     let k = known (c .before .before .before .before .before .before .before .before .pre .0) in
     let s = c .before .before .before .before .before .before .before .before .pre .1 in
-    k .row _ _ (s .known) (omega (arith, s .in-time, c .plain2 .ensures, c .before .before .after2 .ensures))
+    k .row _ _ (s .known) (omega (arith, s .in-time, c .number2 .ensures, c .before .before .after2 .ensures))
 
 returns : tie.Need-returns
 returns c =
@@ -47,7 +47,7 @@ returns c =
     let k = known (c .before .before .before .before .before .before .before .before .before .pre .0) in
     let f = free (siteOf (a .file .now)) (a .board .now) in
     c .run-free .ensures (siteOf (a .file .now)) (k .horizon) (c .before .before .before .before .before .before .before .before .before .pre .1 .known)
-    ∙ ap₂ (λ (x y : ℕ). freeFromTo f (a .w .cell) x y) (c .before .before .plain .ensures ∙ c .before .before .before .before .before .after .ensures) (c .before .plain2 .ensures ∙ c .before .before .before .after2 .ensures)
+    ∙ ap₂ (λ (x y : ℕ). freeFromTo f (a .w .cell) x y) (c .before .before .number .ensures ∙ c .before .before .before .before .before .after .ensures) (c .before .number2 .ensures ∙ c .before .before .before .after2 .ensures)
 
 pub sweep-free-spec : {M : Type 1} → statement M
 sweep-free-spec =
@@ -57,7 +57,7 @@ sweep-free-spec =
     after-requires
     cast-t8-2
     after-requires-2
-    plain-requires
-    plain-requires-2
+    number-requires
+    number-requires-2
     run-free-requires
     returns)

@@ -39,18 +39,18 @@ state-cell-requires : tie.Need-state-cell-requires
 state-cell-requires c κs =
     (known (c .before .before .before .before .before .before .before .before .before .pre .0) .laid, c .before .before .before .before .before .before .before .before .before .pre .1 .state)
 
-plain-requires : tie.Need-plain-requires
-plain-requires c κs = search needs
+number-requires : tie.Need-number-requires
+number-requires c κs = search needs
 
-plain-requires-2 : tie.Need-plain-requires-2
-plain-requires-2 c κs = search needs
+number-requires-2 : tie.Need-number-requires-2
+number-requires-2 c κs = search needs
 
 run-free-requires : tie.Need-run-free-requires
 run-free-requires c κs =
     let k = known (c .before .before .before .before .before .before .before .before .before .before .before .before .pre .0) in
     let inside = k .cell _ (c .before .before .before .before .before .before .before .before .before .before .before .before .pre .1 .state) in
     let late = leb-true (c .before .before .before .before .before .after .result .0) (c .before .before .before .before .before .before .before .before .before .before .before .before .args .sizes .horizon) (sym (c .before .before .before .before .in-time .ensures) ∙ c .before .before .before .if3 .taken) in
-    k .row _ _ (omega (arith, inside, c .before .before .state-cell .ensures .0)) (omega (arith, late, k .horizon, c .plain2 .ensures))
+    k .row _ _ (omega (arith, inside, c .before .before .state-cell .ensures .0)) (omega (arith, late, k .horizon, c .number2 .ensures))
 
 returns-3 : tie.Need-returns-3
 returns-3 c =
@@ -63,7 +63,7 @@ returns-3 c =
     let last = c .before .before .before .before .before .before .after .ensures in
     let stand = sym (c .before .before .before .before .before .before .before .before .state-speed .ensures) ∙ c .before .before .before .before .before .before .before .if2 .left in
     c .run-free .ensures s (k .horizon) (omega (arith, inside, cell))
-    ∙ (λ i. freeFromTo f (cell i) (c .before .before .plain .ensures i) ((c .before .plain2 .ensures ∙ last) i))
+    ∙ (λ i. freeFromTo f (cell i) (c .before .before .number .ensures i) ((c .before .number2 .ensures ∙ last) i))
     ∙ sym (wait-is s f (nodeOf (a .a)) (a .n .0) _ _ (c .before .before .before .before .before .before .before .before .before .if1 .left) stand last (k .horizon) (sym (c .before .before .before .before .before .in-time .ensures) ∙ c .before .before .before .before .if3 .taken))
 
 returns-4 : tie.Need-returns-4
@@ -82,8 +82,8 @@ wait-allowed-spec =
     after-requires
     in-time-requires
     state-cell-requires
-    plain-requires
-    plain-requires-2
+    number-requires
+    number-requires-2
     run-free-requires
     returns-3
     returns-4)
