@@ -8,7 +8,7 @@ use mathlib.Core.List.{List, [], _∷_}
 use mathlib.Core.Option.{Option, none, some}
 use lib.ListN.{length}
 use borrow.Author.Tests.{leb-true, ltb-true}
-use Rattle.meaning.specs.Site.{Site, Sweep, siteOf, motionAt, cellOf}
+use Rattle.meaning.specs.Site.{Site, Sweep, siteOf, cellOf}
 use Rattle.meaning.specs.Board.{Free, Pair, run, runTo, mark}
 use Rattle.meaning.specs.Plan as Plan
 use Rattle.meaning.specs.Plan.{wait, move, allowed, after, walk, startFree, planEnd, sweptPairs, stepPairs, walkPairs, planPairs}
@@ -27,6 +27,7 @@ use Rattle.site.specs.declared.Sizes.{Sizes}
 use Rattle.plan_steps.specs.declared.Node.{Node}
 use Rattle.plan_steps.specs.Ready.{Ready}
 use Rattle.plan_steps.specs.Nodes.{nodeOf, Here}
+use Rattle.plan_steps.proofs.NodeLaws.{Next}
 use Rattle.plan_check.specs.Walks.{startIn}
 use Rattle.plan_check.proofs.LightLaws.{start-known}
 use Rattle.plan_mark.specs.InTime.{InTime}
@@ -67,46 +68,28 @@ pub record Marking (file : List ℕ) (h : ℕ) (light : List ℕ) (first : ℕ) 
 module _ {file : List ℕ} {h : ℕ} {light : List ℕ} {first : ℕ} {start : Node} {old : List ℕ} {at : ℕ} {here : Node} {board : List ℕ}
     (w : Marking file h light first start old at here board) where
   -- what is known of the step at the place
-  pub wait-in-time : {later n : ℕ} → On light at later (wait n) → InTime (siteOf file) (wait n ∷ stepsFrom light later) (nodeOf here)
-  wait-in-time o = subst (λ (ps : List Plan.Step). InTime (siteOf file) ps (nodeOf here)) (o .steps) (w .in-time)
+  pub steps-in-time : {later : ℕ} {p : Plan.Step} → On light at later p → InTime (siteOf file) (p ∷ stepsFrom light later) (nodeOf here)
+  steps-in-time o = subst (λ (ps : List Plan.Step). InTime (siteOf file) ps (nodeOf here)) (o .steps) (w .in-time)
 
-  pub move-in-time : {later k : ℕ} → On light at later (move k) → InTime (siteOf file) (move k ∷ stepsFrom light later) (nodeOf here)
-  move-in-time o = subst (λ (ps : List Plan.Step). InTime (siteOf file) ps (nodeOf here)) (o .steps) (w .in-time)
-
-  marks : {later : ℕ} {p : Plan.Step} → On light at later p → (new : List ℕ) → new ≡ mark (siteOf file) h (stepPairs (siteOf file) p (nodeOf here)) board
-      → (b : Node) → after (siteOf file) p (nodeOf here) ≡ nodeOf b → Here file b → InTime (siteOf file) (stepsFrom light later) (after (siteOf file) p (nodeOf here))
-      → Marking file h light first start old later b new
-  marks {later} {p} o new e b goes k t =
+  -- a step whose pairs are marked leaves those of the steps behind it
+  pub marks : {later : ℕ} {p : Plan.Step} {b : Node} → On light at later p → (new : List ℕ)
+      → new ≡ mark (siteOf file) h (stepPairs (siteOf file) p (nodeOf here)) board → Next file p here b
+      → InTime (siteOf file) (stepsFrom light later) (after (siteOf file) p (nodeOf here)) → Marking file h light first start old later b new
+  marks {later} {p} o new e n t =
       let site = siteOf file in
       let ps = stepPairs site p (nodeOf here) in
       let qs = walkPairs site (stepsFrom light later) (after site p (nodeOf here)) in
       record {
-        room = ap length e ∙ length-mark site h ps board ∙ w .room;
-        laid = o .laid (w .laid);
-        known = k;
-        in-time = subst (InTime site (stepsFrom light later)) goes t;
         rest =
             sym (ap (λ (xs : List Plan.Step). mark site h (walkPairs site xs (nodeOf here)) board) (o .steps)
             ∙ mark-append site h ps qs board
-            ∙ ap₂ (λ (a : Plan.Node) (x : List ℕ). mark site h (walkPairs site (stepsFrom light later) a) x) goes (sym e))
+            ∙ ap₂ (λ (a : Plan.Node) (x : List ℕ). mark site h (walkPairs site (stepsFrom light later) a) x) (n .node) (sym e))
             ∙ w .rest;
+        room = ap length e ∙ length-mark site h ps board ∙ w .room;
+        laid = o .laid (w .laid);
+        known = n .known;
+        in-time = subst (InTime site (stepsFrom light later)) (n .node) t;
       }
-
-  pub marks-wait : {later n : ℕ} → On light at later (wait n) → (new : List ℕ)
-      → new ≡ mark (siteOf file) h (stepPairs (siteOf file) (wait n) (nodeOf here)) board
-      → (b : Node) → (b .state ≡ here .state) × (b .tick .0 ≡ here .tick .0 + n) → Marking file h light first start old later b new
-  marks-wait o new e b (s, t) =
-      let (in-time, more) = wait-in-time o in
-      let k = w .known .state in
-      marks o new e b (λ i. record { state = sym s i; tick = sym t i }) (record { state = omega arith; tick = omega arith }) more
-
-  pub marks-move : {later k : ℕ} → On light at later (move k) → (new : List ℕ)
-      → new ≡ mark (siteOf file) h (stepPairs (siteOf file) (move k) (nodeOf here)) board
-      → (b : Node) → b .state ≡ motionAt (siteOf file) k .to → b .tick .0 ≡ here .tick .0 + motionAt (siteOf file) k .span
-      → motionAt (siteOf file) k .to < length (siteOf file .states) → Marking file h light first start old later b new
-  marks-move o new e b s t below =
-      let (named, in-time, more) = move-in-time o in
-      marks o new e b (λ i. record { state = sym s i; tick = sym t i }) (record { state = omega arith; tick = omega arith }) more
 
   pub marks-end : stepsFrom light at ≡ [] → board ≡ mark (siteOf file) h (walkPairs (siteOf file) (stepsFrom light first) (nodeOf start)) old
   marks-end e = sym (ap (λ (ps : List Plan.Step). mark (siteOf file) h (walkPairs (siteOf file) ps (nodeOf here)) board) e) ∙ w .rest

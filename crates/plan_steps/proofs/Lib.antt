@@ -1,2 +1,3 @@
 pub mod Laws
 pub mod StepLaws
+pub mod NodeLaws

@@ -6,11 +6,13 @@ use lib.ListN.{length}
 use borrow.Author.Tests.{not-true, not-false}
 use Rattle.meaning.specs.Site.{siteOf}
 use Rattle.meaning.specs.Board.{free}
+use Rattle.meaning.proofs.ReachLaws.{wait-ends, move-ends}
 use Rattle.light_read.proofs.StepLaws.{wait-on, move-on, end-on, never-wrong}
 use Rattle.plan_steps.specs.Nodes.{nodeOf}
 use Rattle.plan_steps.proofs.Laws.{known, read-motion}
 use Rattle.plan_steps.proofs.StepLaws.{move-unknown}
-use Rattle.plan_check.proofs.WalkLaws.{Walking, walk-stops, walk-waits, walk-moves, walk-ends}
+use Rattle.plan_steps.proofs.NodeLaws.{next-wait, next-move}
+use Rattle.plan_check.proofs.WalkLaws.{Walking, walk-stops, walk-goes, walk-ends}
 use borrow.Author.Needs.{needs}
 use native.Mathlib.Omega.{arith}
 use Rattle.plan_check.proofs.walk_steps.Statement.{statement}
@@ -58,7 +60,9 @@ loop-less c =
 loop-again : tie.Need-loop-again Inv-loop μ-loop
 loop-again c =
     let o = wait-on _ _ _ _ (sym (c .before .before .before .before .n .given .1) ∙ c .before .before .before .before .before .before .step-at .ensures) in
-    walk-waits (c .before .before .before .before .before .before .before .loop .inv) o (sym (c .before .before .wait-allowed .ensures) ∙ not-false _ (c .before .if1 .left)) _ (c .after-wait .ensures)
+    let l = c .before .before .before .before .before .before .before .loop in
+    let ok = sym (c .before .before .wait-allowed .ensures) ∙ not-false _ (c .before .if1 .left) in
+    walk-goes (l .inv) o ok (next-wait (l .inv .known) (wait-ends _ _ _ (nodeOf (l .here)) ok) (c .after-wait .ensures))
 
 enum-known-k : tie.Need-enum-known-k Inv-loop μ-loop
 enum-known-k c = search needs
@@ -107,8 +111,9 @@ loop-again-2 c =
     let shown = c .before .before .before .motion-at .ensures in
     let named = c .before .before .move-allowed .ensures _ (omega (arith, known (c .before .before .before .before .before .before .before .before .before .before .before .before .before .before .pre .0 .0) .motions)) shown in
     let r = read-motion (c .before .before .before .before .before .before .before .before .before .before .before .before .before .before .pre .0 .0) (omega (arith, known (c .before .before .before .before .before .before .before .before .before .before .before .before .before .before .pre .0 .0) .motions)) shown in
-    let b = c .after-move .ensures in
-    walk-moves (c .before .before .before .before .before .before .before .before .before .before .loop .inv) o (sym named ∙ not-false _ (c .before .if3 .left)) _ (b .0 ∙ shown .to) (omega (arith, b .1, shown .span)) (omega (arith, r .to, shown .to))
+    let l = c .before .before .before .before .before .before .before .before .before .before .loop in
+    let ok = sym named ∙ not-false _ (c .before .if3 .left) in
+    walk-goes (l .inv) o ok (next-move shown (r .to) (move-ends _ _ _ (nodeOf (l .here)) ok) (c .after-move .ensures))
 
 enum-told : tie.Need-enum-told Inv-loop μ-loop
 enum-told c = search needs

@@ -9,7 +9,8 @@ use Rattle.meaning.specs.Board.{mark}
 use Rattle.meaning.specs.Plan.{sweptPairs}
 use Rattle.light_read.proofs.StepLaws.{wait-on, move-on, end-on, never-wrong}
 use Rattle.plan_steps.proofs.Laws.{known, read-motion}
-use Rattle.plan_mark.proofs.MarkLaws.{keep, Marking, wait-in-time, move-in-time, marks-wait, marks-move, marks-end}
+use Rattle.plan_steps.proofs.NodeLaws.{next-wait, next-move}
+use Rattle.plan_mark.proofs.MarkLaws.{keep, Marking, steps-in-time, marks, marks-end}
 use borrow.Author.Needs.{needs}
 use native.Mathlib.Omega.{arith}
 use Rattle.plan_mark.proofs.mark_steps.Statement.{statement}
@@ -39,13 +40,13 @@ mark-wait-requires : tie.Need-mark-wait-requires Inv-loop μ-loop
 mark-wait-requires c κs =
     let v = c .before .before .before .before .before .loop .inv in
     let o = wait-on _ _ _ _ (sym (c .before .before .n .given .1) ∙ c .before .before .before .before .step-at .ensures) in
-    (keep (v .room) (c .before .before .before .before .before .before .before .before .before .pre .0 .0), v .known, wait-in-time v o .0)
+    (keep (v .room) (c .before .before .before .before .before .before .before .before .before .pre .0 .0), v .known, steps-in-time v o .0)
 
 after-wait-requires : tie.Need-after-wait-requires Inv-loop μ-loop
 after-wait-requires c κs =
     let v = c .before .before .before .before .before .before .before .before .loop .inv in
     let o = wait-on _ _ _ _ (sym (c .before .before .before .before .before .n .given .1) ∙ c .before .before .before .before .before .before .before .step-at .ensures) in
-    omega (arith, wait-in-time v o .0, known (c .before .before .before .before .before .before .before .before .before .before .before .before .pre .0 .0) .short)
+    omega (arith, steps-in-time v o .0, known (c .before .before .before .before .before .before .before .before .before .before .before .before .pre .0 .0) .short)
 
 loop-less : tie.Need-loop-less Inv-loop μ-loop
 loop-less c =
@@ -55,7 +56,9 @@ loop-less c =
 loop-again : tie.Need-loop-again Inv-loop μ-loop
 loop-again c =
     let o = wait-on _ _ _ _ (sym (c .before .before .before .before .before .before .n .given .1) ∙ c .before .before .before .before .before .before .before .before .step-at .ensures) in
-    marks-wait (c .before .before .before .before .before .before .before .before .before .loop .inv) o _ (c .before .before .before .mark-wait .ensures) _ (c .after-wait .ensures)
+    let v = c .before .before .before .before .before .before .before .before .before .loop .inv in
+    let (in-time, later) = steps-in-time v o in
+    marks v o _ (c .before .before .before .mark-wait .ensures) (next-wait (v .known) in-time (c .after-wait .ensures)) later
 
 enum-known-k : tie.Need-enum-known-k Inv-loop μ-loop
 enum-known-k c = search needs
@@ -67,13 +70,13 @@ motion-at-requires : tie.Need-motion-at-requires Inv-loop μ-loop
 motion-at-requires c κs =
     let v = c .before .before .before .before .loop .inv in
     let o = move-on _ _ _ _ (sym (c .before .k .given .1) ∙ c .before .before .before .step-at .ensures) in
-    (known (c .before .before .before .before .before .before .before .before .pre .0 .0) .laid, c .before .before .before .before .before .before .before .before .pre .0 .1, move-in-time v o .0)
+    (known (c .before .before .before .before .before .before .before .before .pre .0 .0) .laid, c .before .before .before .before .before .before .before .before .pre .0 .1, steps-in-time v o .0)
 
 mark-sweeps-requires : tie.Need-mark-sweeps-requires Inv-loop μ-loop
 mark-sweeps-requires c κs =
     let v = c .before .before .before .before .before .before .loop .inv in
     let o = move-on _ _ _ _ (sym (c .before .before .before .k .given .1) ∙ c .before .before .before .before .before .step-at .ensures) in
-    let t = move-in-time v o in
+    let t = steps-in-time v o in
     let shown = c .before .motion-at .ensures in
     let ready = keep (v .room) (c .before .before .before .before .before .before .before .before .before .before .pre .0 .0) in
     ((ready, read-motion ready (t .0) shown .sweeps), omega (arith, t .1, shown .span))
@@ -82,7 +85,7 @@ after-move-requires : tie.Need-after-move-requires Inv-loop μ-loop
 after-move-requires c κs =
     let v = c .before .before .before .before .before .before .before .before .before .loop .inv in
     let o = move-on _ _ _ _ (sym (c .before .before .before .before .before .before .k .given .1) ∙ c .before .before .before .before .before .before .before .before .step-at .ensures) in
-    omega (arith, move-in-time v o .1, c .before .before .before .before .motion-at .ensures .span, known (c .before .before .before .before .before .before .before .before .before .before .before .before .before .pre .0 .0) .short)
+    omega (arith, steps-in-time v o .1, c .before .before .before .before .motion-at .ensures .span, known (c .before .before .before .before .before .before .before .before .before .before .before .before .before .pre .0 .0) .short)
 
 loop-less-2 : tie.Need-loop-less-2 Inv-loop μ-loop
 loop-less-2 c =
@@ -95,10 +98,10 @@ loop-again-2 c =
     let l = c .before .before .before .before .before .before .before .before .before .before .loop in
     let o = move-on _ _ _ _ (sym (c .before .before .before .before .before .before .before .k .given .1) ∙ c .before .before .before .before .before .before .before .before .before .step-at .ensures) in
     let shown = c .before .before .before .before .before .motion-at .ensures in
-    let r = read-motion (c .before .before .before .before .before .before .before .before .before .before .before .before .before .before .pre .0 .0) (move-in-time (l .inv) o .0) shown in
-    let b = c .after-move .ensures in
+    let (named, in-time, later) = steps-in-time (l .inv) o in
+    let r = read-motion (c .before .before .before .before .before .before .before .before .before .before .before .before .before .before .pre .0 .0) named shown in
     let e = c .before .before .before .mark-sweeps .ensures ∙ ap (λ (ws : List Sweep). mark (siteOf (a .file .now)) (a .tug) (sweptPairs ws (l .here .tick .0)) (l .board)) (shown .sweeps) in
-    marks-move (l .inv) o _ e _ (b .0 ∙ shown .to) (omega (arith, b .1, shown .span)) (omega (arith, r .to, shown .to))
+    marks (l .inv) o _ e (next-move shown (r .to) in-time (c .after-move .ensures)) later
 
 enum-told : tie.Need-enum-told Inv-loop μ-loop
 enum-told c = search needs
