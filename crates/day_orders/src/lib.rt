@@ -3,11 +3,9 @@ use fields::Header;
 use fields::Item;
 ghost use mathlib.Core.Path.{_≡_};
 ghost use mathlib.Core.Bool.{_&&_};
-ghost use Prim.Native.Nat.{_+_, _≤_, _<_};
+ghost use Prim.Native.Nat.{_≤_};
 ghost use lib.Dec.{eqb};
-ghost use lib.ListN.{length};
 ghost use Rattle.meaning.specs.Limits.{routeSize};
-ghost use Rattle.meaning.specs.Basics.{u16At};
 ghost use Rattle.meaning.specs.Fields.{fields};
 ghost use Rattle.meaning.specs.Day.{wanted};
 ghost use Rattle.fields.specs.Places.{fieldAt, Whole};
@@ -63,13 +61,6 @@ fn is_call(tag: u8, len: usize, call: u8, size: usize) -> bool
     false
 }
 
-fn u16_at(bytes: &[u8], at: usize) -> u16
-    requires { ⌜ at + 1 < length (now bytes) ⌝ }
-    ensures { λ r. ⌜ r ≡ u16At (now (bytes .entry)) at ⌝ }
-{
-    fields::number_at(bytes, at) as u16
-}
-
 // The call of a whole field at the front of the bytes.
 fn field_entry(bytes: &[u8], h: Header) -> Entry
     requires { ⌜ Whole (now bytes) 0 h ⌝ }
@@ -79,17 +70,17 @@ fn field_entry(bytes: &[u8], h: Header) -> Entry
     let at = h.start;
     let len = h.len;
     if is_call(tag, len, CLOSE, 6) {
-        let first = u16_at(bytes, at + 2);
-        let last = u16_at(bytes, at + 4);
+        let first = fields::u16_at(bytes, at + 2);
+        let last = fields::u16_at(bytes, at + 4);
         return Entry::Call(Order::Close(bytes[at], bytes[at + 1], first, last));
     }
     if is_call(tag, len, WITHDRAW, 1) {
         return Entry::Call(Order::Withdraw(bytes[at]));
     }
     if is_call(tag, len, ROUTE, ROUTE_SIZE) {
-        let start = u16_at(bytes, at + 1);
-        let tick = u16_at(bytes, at + 3);
-        let goal = u16_at(bytes, at + 5);
+        let start = fields::u16_at(bytes, at + 1);
+        let tick = fields::u16_at(bytes, at + 3);
+        let goal = fields::u16_at(bytes, at + 5);
         return Entry::Call(Order::Route(bytes[at], start, tick, goal));
     }
     if is_call(tag, len, POST, 0) {

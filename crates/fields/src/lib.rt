@@ -45,6 +45,14 @@ pub fn number_at(s: &[u8], at: usize) -> usize
     byte_at(s, at) * 256 + byte_at(s, at + 1)
 }
 
+// The same as a number of two bytes.
+pub fn u16_at(s: &[u8], at: usize) -> u16
+    requires { ⌜ at + 1 < length (now s) ⌝ }
+    ensures { λ r. ⌜ r ≡ u16At (now (s .entry)) at ⌝ }
+{
+    number_at(s, at) as u16
+}
+
 // The work: what stands at a position of a slice.
 pub fn item_at(s: &[u8], at: usize) -> Item
     ensures { λ r. ⌜ r ≡ itemOf (now (s .entry)) at ⌝ }

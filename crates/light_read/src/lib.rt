@@ -44,14 +44,6 @@ pub enum Step {
     Wrong,
 }
 
-// The two bytes at `at` as a number.
-fn u16_at(s: &[u8], at: usize) -> u16
-    requires { ⌜ at + 2 ≤ length (now s) ⌝ }
-    ensures { λ r. ⌜ r ≡ u16At (now (s .entry)) at ⌝ }
-{
-    fields::number_at(s, at) as u16
-}
-
 // The step whose field has this header.
 fn step_in(s: &[u8], h: Header) -> Step
     requires { ⌜ h .start + h .len ≤ length (now s) ⌝ }
@@ -60,7 +52,7 @@ fn step_in(s: &[u8], h: Header) -> Step
     if h.len != STEP_SIZE {
         return Step::Wrong;
     }
-    let n = u16_at(s, h.start);
+    let n = fields::u16_at(s, h.start);
     if h.tag == MOVE_TAG {
         return Step::Move(n, h.next);
     }
@@ -85,7 +77,7 @@ pub fn step_at(s: &[u8], at: usize) -> Step
 }
 
 // The reader after a wait: a motion or the end comes next.
-pub fn after_wait(s: &[u8], at: usize) -> bool
+fn after_wait(s: &[u8], at: usize) -> bool
     ensures { λ r. ⌜ r ≡ laidFrom false (now (s .entry)) at ⌝ }
 {
     match step_at(s, at) {
@@ -97,7 +89,7 @@ pub fn after_wait(s: &[u8], at: usize) -> bool
 }
 
 // The reader after a motion, and at the first step: either or the end comes next.
-pub fn after_motion(s: &[u8], at: usize) -> bool
+fn after_motion(s: &[u8], at: usize) -> bool
     ensures { λ r. ⌜ r ≡ laidFrom true (now (s .entry)) at ⌝ }
 {
     match step_at(s, at) {
@@ -150,14 +142,14 @@ pub fn read_head(s: &[u8]) -> Head
     ensures { λ r. ⌜ r ≡ headOf (lightOf (now (s .entry))) ⌝ }
 {
     let at = head_value(s);
-    let high = u16_at(s, at) as u32;
-    let low = u16_at(s, at + 2) as u32;
+    let high = fields::u16_at(s, at) as u32;
+    let low = fields::u16_at(s, at + 2) as u32;
     Head {
         edition: high * 65536 + low,
         tug: s[at + 4],
-        start: u16_at(s, at + 5),
-        tick: u16_at(s, at + 7),
-        goal: u16_at(s, at + 9),
-        arrival: u16_at(s, at + 11),
+        start: fields::u16_at(s, at + 5),
+        tick: fields::u16_at(s, at + 7),
+        goal: fields::u16_at(s, at + 9),
+        arrival: fields::u16_at(s, at + 11),
     }
 }

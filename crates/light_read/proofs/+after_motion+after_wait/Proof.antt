@@ -44,34 +44,21 @@ abbrev after-wait-below : ℕ → In 1 after-wait-kinds.ps
 after-wait-below t =
     and 1 after-wait-kinds.ps (falls 1 after-wait-kinds.ps _<_ μ-after-wait t) after-wait.Pre
 
-after-motion-step-at-requires : (t : ℕ) → after-motion-lts.Need-step-at-requires (
-  step-at-reads.Asked,
-  step-at-reads.Learnt,
-  after-motion-below t,
-  after-motion.Post,
-  after-wait-below t,
-  after-wait.Post,
-) (after-motion-at t) after-motion.Post
+-- what each reader's calls ask and tell
+abbrev motion-claims : ℕ → after-motion-lts.Claims
+motion-claims t =
+    (step-at-reads.Asked, step-at-reads.Learnt, after-motion-below t, after-motion.Post, after-wait-below t, after-wait.Post)
+
+abbrev wait-claims : ℕ → after-wait-lts.Claims
+wait-claims t = (step-at-reads.Asked, step-at-reads.Learnt, after-motion-below t, after-motion.Post)
+
+after-motion-step-at-requires : (t : ℕ) → after-motion-lts.Need-step-at-requires (motion-claims t) (after-motion-at t) after-motion.Post
 after-motion-step-at-requires t c κs = search needs
 
-after-motion-enum-known-next : (t : ℕ) → after-motion-lts.Need-enum-known-next (
-  step-at-reads.Asked,
-  step-at-reads.Learnt,
-  after-motion-below t,
-  after-motion.Post,
-  after-wait-below t,
-  after-wait.Post,
-) (after-motion-at t) after-motion.Post
+after-motion-enum-known-next : (t : ℕ) → after-motion-lts.Need-enum-known-next (motion-claims t) (after-motion-at t) after-motion.Post
 after-motion-enum-known-next t c = search needs
 
-after-motion-after-motion-requires : (t : ℕ) → after-motion-lts.Need-after-motion-requires (
-  step-at-reads.Asked,
-  step-at-reads.Learnt,
-  after-motion-below t,
-  after-motion.Post,
-  after-wait-below t,
-  after-wait.Post,
-) (after-motion-at t) after-motion.Post
+after-motion-after-motion-requires : (t : ℕ) → after-motion-lts.Need-after-motion-requires (motion-claims t) (after-motion-at t) after-motion.Post
 after-motion-after-motion-requires t c κs =
     let a = c .before .before .before .before .before .args in
     let (w, m) = is-move (a .s .now) (a .at) _ _ (sym (c .before .next .given .1) ∙ c .before .before .before .step-at .ensures) in
@@ -79,24 +66,10 @@ after-motion-after-motion-requires t c κs =
     let in-s = w .inside in
     search needs
 
-after-motion-enum-known-next-2 : (t : ℕ) → after-motion-lts.Need-enum-known-next-2 (
-  step-at-reads.Asked,
-  step-at-reads.Learnt,
-  after-motion-below t,
-  after-motion.Post,
-  after-wait-below t,
-  after-wait.Post,
-) (after-motion-at t) after-motion.Post
+after-motion-enum-known-next-2 : (t : ℕ) → after-motion-lts.Need-enum-known-next-2 (motion-claims t) (after-motion-at t) after-motion.Post
 after-motion-enum-known-next-2 t c = search needs
 
-after-motion-after-wait-requires : (t : ℕ) → after-motion-lts.Need-after-wait-requires (
-  step-at-reads.Asked,
-  step-at-reads.Learnt,
-  after-motion-below t,
-  after-motion.Post,
-  after-wait-below t,
-  after-wait.Post,
-) (after-motion-at t) after-motion.Post
+after-motion-after-wait-requires : (t : ℕ) → after-motion-lts.Need-after-wait-requires (motion-claims t) (after-motion-at t) after-motion.Post
 after-motion-after-wait-requires t c κs =
     let a = c .before .before .before .before .before .args in
     let (w, m, k) = is-wait (a .s .now) (a .at) _ _ (sym (c .before .next2 .given .1) ∙ c .before .before .before .step-at .ensures) in
@@ -104,96 +77,39 @@ after-motion-after-wait-requires t c κs =
     let in-s = w .inside in
     search needs
 
-after-motion-enum-told : (t : ℕ) → after-motion-lts.Need-enum-told (
-  step-at-reads.Asked,
-  step-at-reads.Learnt,
-  after-motion-below t,
-  after-motion.Post,
-  after-wait-below t,
-  after-wait.Post,
-) (after-motion-at t) after-motion.Post
+after-motion-enum-told : (t : ℕ) → after-motion-lts.Need-enum-told (motion-claims t) (after-motion-at t) after-motion.Post
 after-motion-enum-told t c = search needs
 
-after-motion-enum-told-2 : (t : ℕ) → after-motion-lts.Need-enum-told-2 (
-  step-at-reads.Asked,
-  step-at-reads.Learnt,
-  after-motion-below t,
-  after-motion.Post,
-  after-wait-below t,
-  after-wait.Post,
-) (after-motion-at t) after-motion.Post
+after-motion-enum-told-2 : (t : ℕ) → after-motion-lts.Need-enum-told-2 (motion-claims t) (after-motion-at t) after-motion.Post
 after-motion-enum-told-2 t c = search needs
 
-after-motion-returns : (t : ℕ) → after-motion-lts.Need-returns (
-  step-at-reads.Asked,
-  step-at-reads.Learnt,
-  after-motion-below t,
-  after-motion.Post,
-  after-wait-below t,
-  after-wait.Post,
-) (after-motion-at t) after-motion.Post
+after-motion-returns : (t : ℕ) → after-motion-lts.Need-returns (motion-claims t) (after-motion-at t) after-motion.Post
 after-motion-returns t c =
     let a = c .before .before .before .before .before .before .args in
     c .after-motion .ensures ∙ sym (move-laid true (a .s .now) (a .at) _ _ (sym (c .before .before .next .given .1) ∙ c .before .before .before .before .step-at .ensures))
 
-after-motion-returns-2 : (t : ℕ) → after-motion-lts.Need-returns-2 (
-  step-at-reads.Asked,
-  step-at-reads.Learnt,
-  after-motion-below t,
-  after-motion.Post,
-  after-wait-below t,
-  after-wait.Post,
-) (after-motion-at t) after-motion.Post
+after-motion-returns-2 : (t : ℕ) → after-motion-lts.Need-returns-2 (motion-claims t) (after-motion-at t) after-motion.Post
 after-motion-returns-2 t c =
     let a = c .before .before .before .before .before .before .args in
     c .after-wait .ensures ∙ sym (wait-laid true (a .s .now) (a .at) _ _ (sym (c .before .before .next2 .given .1) ∙ c .before .before .before .before .step-at .ensures))
 
-after-motion-returns-3 : (t : ℕ) → after-motion-lts.Need-returns-3 (
-  step-at-reads.Asked,
-  step-at-reads.Learnt,
-  after-motion-below t,
-  after-motion.Post,
-  after-wait-below t,
-  after-wait.Post,
-) (after-motion-at t) after-motion.Post
+after-motion-returns-3 : (t : ℕ) → after-motion-lts.Need-returns-3 (motion-claims t) (after-motion-at t) after-motion.Post
 after-motion-returns-3 t c =
     let a = c .before .before .before .before .args in
     sym (end-laid true (a .s .now) (a .at) (sym (c .enum-told .given .1) ∙ c .before .before .step-at .ensures))
 
-after-motion-returns-4 : (t : ℕ) → after-motion-lts.Need-returns-4 (
-  step-at-reads.Asked,
-  step-at-reads.Learnt,
-  after-motion-below t,
-  after-motion.Post,
-  after-wait-below t,
-  after-wait.Post,
-) (after-motion-at t) after-motion.Post
+after-motion-returns-4 : (t : ℕ) → after-motion-lts.Need-returns-4 (motion-claims t) (after-motion-at t) after-motion.Post
 after-motion-returns-4 t c =
     let a = c .before .before .before .before .args in
     sym (wrong-laid true (a .s .now) (a .at) (sym (c .enum-told2 .given .1) ∙ c .before .before .step-at .ensures))
 
-after-wait-step-at-requires : (t : ℕ) → after-wait-lts.Need-step-at-requires (
-  step-at-reads.Asked,
-  step-at-reads.Learnt,
-  after-motion-below t,
-  after-motion.Post,
-) (after-wait-at t) after-wait.Post
+after-wait-step-at-requires : (t : ℕ) → after-wait-lts.Need-step-at-requires (wait-claims t) (after-wait-at t) after-wait.Post
 after-wait-step-at-requires t c κs = search needs
 
-after-wait-enum-known-next : (t : ℕ) → after-wait-lts.Need-enum-known-next (
-  step-at-reads.Asked,
-  step-at-reads.Learnt,
-  after-motion-below t,
-  after-motion.Post,
-) (after-wait-at t) after-wait.Post
+after-wait-enum-known-next : (t : ℕ) → after-wait-lts.Need-enum-known-next (wait-claims t) (after-wait-at t) after-wait.Post
 after-wait-enum-known-next t c = search needs
 
-after-wait-after-motion-requires : (t : ℕ) → after-wait-lts.Need-after-motion-requires (
-  step-at-reads.Asked,
-  step-at-reads.Learnt,
-  after-motion-below t,
-  after-motion.Post,
-) (after-wait-at t) after-wait.Post
+after-wait-after-motion-requires : (t : ℕ) → after-wait-lts.Need-after-motion-requires (wait-claims t) (after-wait-at t) after-wait.Post
 after-wait-after-motion-requires t c κs =
     let a = c .before .before .before .before .before .args in
     let (w, m) = is-move (a .s .now) (a .at) _ _ (sym (c .before .next .given .1) ∙ c .before .before .before .step-at .ensures) in
@@ -201,79 +117,37 @@ after-wait-after-motion-requires t c κs =
     let in-s = w .inside in
     search needs
 
-after-wait-enum-told : (t : ℕ) → after-wait-lts.Need-enum-told (
-  step-at-reads.Asked,
-  step-at-reads.Learnt,
-  after-motion-below t,
-  after-motion.Post,
-) (after-wait-at t) after-wait.Post
+after-wait-enum-told : (t : ℕ) → after-wait-lts.Need-enum-told (wait-claims t) (after-wait-at t) after-wait.Post
 after-wait-enum-told t c = search needs
 
-after-wait-enum-told-2 : (t : ℕ) → after-wait-lts.Need-enum-told-2 (
-  step-at-reads.Asked,
-  step-at-reads.Learnt,
-  after-motion-below t,
-  after-motion.Post,
-) (after-wait-at t) after-wait.Post
+after-wait-enum-told-2 : (t : ℕ) → after-wait-lts.Need-enum-told-2 (wait-claims t) (after-wait-at t) after-wait.Post
 after-wait-enum-told-2 t c = search needs
 
-after-wait-enum-told-3 : (t : ℕ) → after-wait-lts.Need-enum-told-3 (
-  step-at-reads.Asked,
-  step-at-reads.Learnt,
-  after-motion-below t,
-  after-motion.Post,
-) (after-wait-at t) after-wait.Post
+after-wait-enum-told-3 : (t : ℕ) → after-wait-lts.Need-enum-told-3 (wait-claims t) (after-wait-at t) after-wait.Post
 after-wait-enum-told-3 t c = search needs
 
-after-wait-returns : (t : ℕ) → after-wait-lts.Need-returns (
-  step-at-reads.Asked,
-  step-at-reads.Learnt,
-  after-motion-below t,
-  after-motion.Post,
-) (after-wait-at t) after-wait.Post
+after-wait-returns : (t : ℕ) → after-wait-lts.Need-returns (wait-claims t) (after-wait-at t) after-wait.Post
 after-wait-returns t c =
     let a = c .before .before .before .before .before .before .args in
     c .after-motion .ensures ∙ sym (move-laid false (a .s .now) (a .at) _ _ (sym (c .before .before .next .given .1) ∙ c .before .before .before .before .step-at .ensures))
 
-after-wait-returns-2 : (t : ℕ) → after-wait-lts.Need-returns-2 (
-  step-at-reads.Asked,
-  step-at-reads.Learnt,
-  after-motion-below t,
-  after-motion.Post,
-) (after-wait-at t) after-wait.Post
+after-wait-returns-2 : (t : ℕ) → after-wait-lts.Need-returns-2 (wait-claims t) (after-wait-at t) after-wait.Post
 after-wait-returns-2 t c =
     let a = c .before .before .before .before .args in
     sym (wait-laid false (a .s .now) (a .at) _ _ (sym (c .enum-told .given .1) ∙ c .before .before .step-at .ensures))
 
-after-wait-returns-3 : (t : ℕ) → after-wait-lts.Need-returns-3 (
-  step-at-reads.Asked,
-  step-at-reads.Learnt,
-  after-motion-below t,
-  after-motion.Post,
-) (after-wait-at t) after-wait.Post
+after-wait-returns-3 : (t : ℕ) → after-wait-lts.Need-returns-3 (wait-claims t) (after-wait-at t) after-wait.Post
 after-wait-returns-3 t c =
     let a = c .before .before .before .before .args in
     sym (end-laid false (a .s .now) (a .at) (sym (c .enum-told2 .given .1) ∙ c .before .before .step-at .ensures))
 
-after-wait-returns-4 : (t : ℕ) → after-wait-lts.Need-returns-4 (
-  step-at-reads.Asked,
-  step-at-reads.Learnt,
-  after-motion-below t,
-  after-motion.Post,
-) (after-wait-at t) after-wait.Post
+after-wait-returns-4 : (t : ℕ) → after-wait-lts.Need-returns-4 (wait-claims t) (after-wait-at t) after-wait.Post
 after-wait-returns-4 t c =
     let a = c .before .before .before .before .args in
     sym (wrong-laid false (a .s .now) (a .at) (sym (c .enum-told3 .given .1) ∙ c .before .before .step-at .ensures))
 
 pub +after-motion+after-wait-spec : {M : Type 1} → statement M
-+after-motion+after-wait-spec = close μ-after-motion μ-after-wait (λ t. after-motion-lts.spec (
-  step-at-reads.Asked,
-  step-at-reads.Learnt,
-  after-motion-below t,
-  after-motion.Post,
-  after-wait-below t,
-  after-wait.Post,
-)
++after-motion+after-wait-spec = close μ-after-motion μ-after-wait (λ t. after-motion-lts.spec (motion-claims t)
     (after-motion-at t)
     after-motion.Post
     (after-motion-step-at-requires t)
@@ -288,7 +162,7 @@ pub +after-motion+after-wait-spec : {M : Type 1} → statement M
     (after-motion-returns-3 t)
     (after-motion-returns-4 t))
     λ t. after-wait-lts.spec
-    (step-at-reads.Asked, step-at-reads.Learnt, after-motion-below t, after-motion.Post)
+    (wait-claims t)
     (after-wait-at t)
     after-wait.Post
     (after-wait-step-at-requires t)
