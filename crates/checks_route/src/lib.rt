@@ -31,7 +31,7 @@ fn room_enough(l: Sizes, out_len: usize, work_len: usize) -> bool
     requires { ⌜ (l .states ≤ stateLimit) × (l .horizon ≤ horizonLimit) ⌝ }
     ensures { λ r. ⌜ ((site : Site) (areas : Room) → Gives l site → areas .out ≡ «out_len» → areas .words ≡ «work_len» → r ≡ roomEnough site areas) ⌝ }
 {
-    if out_len < 16 + 5 * l.horizon {
+    if out_len < light::length_of(l.horizon) {
         return false;
     }
     l.states * (l.horizon + 1) <= work_len

@@ -17,7 +17,9 @@ use Rattle.meaning.proofs.LightLaws.{head-tests}
 use Rattle.fields.specs.declared.Header.{Header}
 use Rattle.fields.specs.Places.{fieldsAt, fieldAt, Whole}
 use Rattle.fields.proofs.Laws.{whole-at, whole-length, field-tag, value-byte, by-place, at-next, value-length, at-end}
-use Rattle.light_read.specs.Steps.{headOf, stepsFrom, laidFrom}
+use Rattle.light.specs.Heads.{headOf}
+use Rattle.light.specs.Sizes.{firstStep}
+use Rattle.light_read.specs.Steps.{stepsFrom, laidFrom}
 
 -- ---- when bytes are a light
 
@@ -66,14 +68,14 @@ light-field s h w p =
 
 -- ---- what an accepted light has
 
--- its head stands at the front, and its steps from 16 on
+-- its head stands at the front, and its steps behind it
 pub record Accepted (s : List ℕ) : Type 0 where
   pub whole : complete (fieldsAt s 0) ≡ true
-  pub room : 16 ≤ length s
+  pub room : firstStep ≤ length s
   pub size : u16At s (0 + 1) ≡ lightHeadSize
   pub head : lightHeadOf s ≡ fieldAt s 0
-  pub laid : laidFrom true s 16 ≡ true
-  pub steps : stepsFrom s 16 ≡ lightOf s .steps
+  pub laid : laidFrom true s firstStep ≡ true
+  pub steps : stepsFrom s firstStep ≡ lightOf s .steps
 
 accepted-next : (s : List ℕ) (later : ℕ) → isLight s ≡ true → fieldsAt s 0 ≡ next (fieldAt s 0) (fieldsAt s later)
     → (complete (fieldsAt s later) ≡ true) × (isLightHead (fieldAt s 0) ≡ true) × (inLayout true (listed (fieldsAt s later)) ≡ true)
@@ -89,8 +91,8 @@ accepted-field s h r =
     let e = at-next s 0 n refl r in
     let (c, head-good, layout) = accepted-next s (0 + 3 + n) h e in
     let size : n ≡ lightHeadSize = sym (value-length s 0 n refl r) ∙ head-tests (fieldAt s 0) head-good .1 in
-    let place : 0 + 3 + n ≡ 16 = omega arith in
-    let list : listed (fields s) ≡ fieldAt s 0 ∷ listed (fieldsAt s 16) =
+    let place : 0 + 3 + n ≡ firstStep = omega arith in
+    let list : listed (fields s) ≡ fieldAt s 0 ∷ listed (fieldsAt s firstStep) =
     ap listed (sym (whole-at s) ∙ e) ∙ ap (λ (k : ℕ). fieldAt s 0 ∷ listed (fieldsAt s k)) place in
     record {
       whole = ap complete e ∙ c;

@@ -1,4 +1,4 @@
--- A light's steps by their place, and its head as numbers.
+-- A light's steps by their place.
 -- Assumes nothing.
 use Prim.Native.Nat.{ℕ, _+_}
 use mathlib.Core.Bool.{Bool, true, false, not, _&&_}
@@ -8,16 +8,11 @@ use lib.ListN.{length}
 use Rattle.meaning.specs.Limits.{fieldHeader, stepSize, waitTag, moveTag}
 use Rattle.meaning.specs.Basics.{isZero, u16At}
 use Rattle.meaning.specs.Fields.{Fields, end, cut, next, complete, listed}
-use Rattle.meaning.specs.Light.{Light, isMove, isWait, inLayout, stepOf}
+use Rattle.meaning.specs.Light.{isMove, isWait, inLayout, stepOf}
 use Rattle.meaning.specs.Plan as Plan
 use Rattle.fields.specs.Places.{fieldsAt}
-use Rattle.light_read.specs.declared.Head.{Head}
 use Rattle.light_read.specs.declared.Step.{Step}
 use Rattle.light_read.specs.declared.Step.the-variants.{Wait, Move, End, Wrong}
-
--- the head's numbers
-abbrev pub headOf : Light → Head
-headOf l = record { edition = l .edition; tug = l .tug; start = l .start; tick = l .tick; goal = l .goal; arrival = l .arrival }
 
 -- ---- the steps from a place on
 

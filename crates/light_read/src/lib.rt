@@ -7,34 +7,11 @@ ghost use lib.ListN.{length};
 ghost use Rattle.meaning.specs.Limits.{fieldHeader, lightTag, lightHeadSize};
 ghost use Rattle.meaning.specs.Basics.{u16At};
 ghost use Rattle.meaning.specs.Light.{isLight, lightOf};
-ghost use Rattle.light_read.specs.Steps.{headOf, laidFrom, stepIn, stepAt};
+ghost use Rattle.light.specs.Heads.{headOf};
+ghost use Rattle.light_read.specs.Steps.{laidFrom, stepIn, stepAt};
 use fields::Header;
 use fields::Item;
-
-const LIGHT_LIMIT: usize = 5016;
-
-const LIGHT_TAG: u8 = 16;
-
-const WAIT_TAG: u8 = 17;
-
-const MOVE_TAG: u8 = 18;
-
-const HEAD_SIZE: usize = 13;
-
-const STEP_SIZE: usize = 2;
-
-// Where an accepted light's first step starts.
-pub const FIRST_STEP: usize = 16;
-
-// The numbers of a light's head.
-pub struct Head {
-    pub edition: u32,
-    pub tug: u8,
-    pub start: u16,
-    pub tick: u16,
-    pub goal: u16,
-    pub arrival: u16,
-}
+use light::Head;
 
 // What stands at a place: a wait's span or a motion's number, each with where the next step starts; the end; or no step.
 pub enum Step {
@@ -49,14 +26,14 @@ fn step_in(s: &[u8], h: Header) -> Step
     requires { ⌜ h .start + h .len ≤ length (now s) ⌝ }
     ensures { λ r. ⌜ r ≡ stepIn (h .tag) (h .len) (u16At (now (s .entry)) (h .start)) (h .next) ⌝ }
 {
-    if h.len != STEP_SIZE {
+    if h.len != light::STEP_SIZE {
         return Step::Wrong;
     }
     let n = fields::u16_at(s, h.start);
-    if h.tag == MOVE_TAG {
+    if h.tag == light::MOVE_TAG {
         return Step::Move(n, h.next);
     }
-    if h.tag != WAIT_TAG {
+    if h.tag != light::WAIT_TAG {
         return Step::Wrong;
     }
     if n == 0 {
@@ -104,10 +81,10 @@ fn after_motion(s: &[u8], at: usize) -> bool
 fn head_then_steps(s: &[u8], h: Header) -> bool
     ensures { λ r. ⌜ r ≡ (eqb (h .tag) lightTag && eqb (h .len) lightHeadSize && laidFrom true (now (s .entry)) (h .next)) ⌝ }
 {
-    if h.tag != LIGHT_TAG {
+    if h.tag != light::LIGHT_TAG {
         return false;
     }
-    if h.len != HEAD_SIZE {
+    if h.len != light::HEAD_SIZE {
         return false;
     }
     after_motion(s, h.next)
@@ -117,7 +94,7 @@ fn head_then_steps(s: &[u8], h: Header) -> bool
 pub fn is_light(s: &[u8]) -> bool
     ensures { λ r. ⌜ r ≡ isLight (now (s .entry)) ⌝ }
 {
-    if s.len() > LIGHT_LIMIT {
+    if s.len() > light::LIGHT_LIMIT {
         return false;
     }
     match fields::read_item(s, 0) {

@@ -1,23 +1,39 @@
 -- Laws of bytes placed in an area: from the back to the front, as a light is traced.
 -- Assumes nothing.
-use Prim.Native.Nat.{ℕ, _+_, _/_, _%_, _≤_}
+use Prim.Native.Nat.{ℕ, _+_, _-_, _/_, _%_, _≤_}
 use native.Mathlib.Omega.{arith}
 use native.Mathlib.Nat.{add-zero, zero-add}
 use mathlib.Core.Path.{_≡_, refl, sym, ap, _∙_}
 use mathlib.Core.List.{List, [], _∷_, _++_, map, append-assoc, append-nil}
-use lib.ListN.{length, take, drop, length-append, take-append-drop}
-use lib.Seq.{length-take-le, take-append-le, take-take, drop-at}
+use lib.ListN.{length, take, drop, length-append, length-drop, take-append-drop}
+use lib.Seq.{length-take-le, take-append-le, take-length, take-take, drop-at, drop-drop, drop-length}
 use Rattle.meaning.specs.Limits.{stepSize}
 use Rattle.meaning.specs.Basics.{put16}
 use Rattle.meaning.specs.Fields.{fieldBytes, fieldsBytes}
 use Rattle.meaning.specs.Light.{Light, lightHead, stepField, encode}
 use Rattle.meaning.specs.Calls.{over}
+use Rattle.light.specs.Sizes.{firstStep, stepLength}
 use Rattle.light_write.specs.Areas.{tagged, placed}
 
+-- bytes copied to the front of what is left of the area from `at` on
+copied : (at : ℕ) (new area last : List ℕ) → last ≡ new ++ drop (length new) (take (length area - at) (drop at area))
+    → take at area ++ (last ++ drop (length area - at) (drop at area)) ≡ placed at new area
+copied at new area last e =
+    rw (
+      e,
+      ← length-drop at area,
+      take-length (drop at area),
+      drop-length (drop at area),
+      append-nil (new ++ drop (length new) (drop at area)),
+      drop-drop (length new) at area,
+    )
+    (sym (append-assoc (take at area) new (drop (at + length new) area)))
+
 -- a step's field, from its bytes
-pub step-bytes : (at tag n high low : ℕ) (area : List ℕ) → high ≡ n / 256 % 256 → low ≡ n % 256
-    → placed at (tag ∷ 0 ∷ stepSize ∷ high ∷ low ∷ []) area ≡ placed at (fieldBytes (tagged tag (put16 n))) area
-step-bytes at tag n high low area h l = rw (h, l)
+pub step-copied : (at tag n high low : ℕ) (area last : List ℕ) → high ≡ n / 256 % 256 → low ≡ n % 256
+    → last ≡ tag ∷ 0 ∷ stepSize ∷ high ∷ low ∷ drop stepLength (take (length area - at) (drop at area))
+    → take at area ++ (last ++ drop (length area - at) (drop at area)) ≡ placed at (fieldBytes (tagged tag (put16 n))) area
+step-copied at tag n high low area last h l e = copied at (fieldBytes (tagged tag (put16 n))) area last (e ∙ rw (h, l))
 
 -- nothing placed changes nothing
 pub placed-none : (at : ℕ) (area : List ℕ) → placed at [] area ≡ area
@@ -48,10 +64,10 @@ pub placed-front : (new area : List ℕ) → placed 0 new area ≡ over new area
 placed-front new area = ap (λ (k : ℕ). new ++ drop k area) (zero-add (length new))
 
 -- a head written after its steps makes the light
-pub head-last : (l : Light) (area : List ℕ) → 16 + length (fieldsBytes (map stepField (l .steps))) ≤ length area
-    → over (fieldBytes (lightHead l)) (placed 16 (fieldsBytes (map stepField (l .steps))) area) ≡ over (encode l) area
+pub head-last : (l : Light) (area : List ℕ) → firstStep + length (fieldsBytes (map stepField (l .steps))) ≤ length area
+    → over (fieldBytes (lightHead l)) (placed firstStep (fieldsBytes (map stepField (l .steps))) area) ≡ over (encode l) area
 unfolding encode
 head-last l area h =
     let head = fieldBytes (lightHead l) in
     let steps = fieldsBytes (map stepField (l .steps)) in
-    placed-before 0 16 head steps area refl h ∙ placed-front (head ++ steps) area
+    placed-before 0 firstStep head steps area refl h ∙ placed-front (head ++ steps) area

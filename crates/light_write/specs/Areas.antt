@@ -4,13 +4,6 @@ use Prim.Native.Nat.{ℕ, _+_}
 use mathlib.Core.List.{List, _++_}
 use lib.ListN.{length, take, drop}
 use Rattle.meaning.specs.Fields.{Field}
-use Rattle.meaning.specs.Light.{Light}
-use Rattle.meaning.specs.Plan.{Step}
-
--- the light with these numbers and steps
-abbrev pub lightWith : ℕ → ℕ → ℕ → ℕ → ℕ → ℕ → List Step → Light
-lightWith edition tug start tick goal arrival steps =
-    record { edition = edition; tug = tug; start = start; tick = tick; goal = goal; arrival = arrival; steps = steps }
 
 -- the field with this tag and value
 abbrev pub tagged : ℕ → List ℕ → Field

@@ -13,6 +13,10 @@ use Rattle.meaning.specs.Light.{stepField}
 abbrev pub firstMove : ℕ
 firstMove = 1001
 
+-- how many codes a stack holds
+abbrev pub codeLimit : ℕ
+codeLimit = 1024
+
 unfoldable pub stepOfCode : ℕ → Step
 stepOfCode c = cond (ltb c firstMove) (wait c) (move (c - firstMove))
 

@@ -17,8 +17,9 @@ use Rattle.meaning.specs.Plan.{startFree, planEnd, walk, wait, move}
 use Rattle.meaning.specs.Light.{isLight, lightOf, startOf}
 use Rattle.meaning.specs.Calls.{isAt, lightValid, startNamed, stepNamed, lightNamed}
 use Rattle.meaning.proofs.BasicsLaws.{every-at, every-fails}
-use Rattle.light_read.specs.Steps.{headOf, stepsFrom}
-use Rattle.light_read.specs.declared.Head.{Head}
+use Rattle.light.specs.Heads.{headOf}
+use Rattle.light.specs.declared.Head.{Head}
+use Rattle.light_read.specs.Steps.{stepsFrom}
 use Rattle.light_read.proofs.HeadLaws.{accepted}
 use Rattle.light_read.proofs.StepLaws.{On}
 use Rattle.site.specs.Check.{sizesOf}

@@ -2,7 +2,7 @@
 -- Assumes nothing.
 use mathlib.Core.Option.{Option, none, some}
 use Rattle.meaning.specs.Plan as Plan
-use Rattle.light_read.specs.declared.Head.{Head}
+use Rattle.light.specs.declared.Head.{Head}
 use Rattle.plan_steps.specs.Nodes.{nodeOf}
 use Rattle.plan_check.specs.declared.WalkEnd.{WalkEnd}
 use Rattle.plan_check.specs.declared.WalkEnd.the-variants.{At, NotAllowed}

@@ -1,5 +1,5 @@
 // A light's plan: does the walk of its steps hold on the board, and are the numbers that it names the site's.
-use light_read::Head;
+use light::Head;
 use light_read::Step;
 use plan_steps::Node;
 use site::Sizes;
@@ -23,9 +23,6 @@ ghost use Rattle.site.specs.Motions.{Index};
 ghost use Rattle.plan_steps.specs.Ready.{Ready};
 ghost use Rattle.plan_steps.specs.Nodes.{nodeOf, Here};
 ghost use Rattle.plan_check.specs.Walks.{walkEndCase, startIn};
-
-// Where the first step of a light starts: its head has 16 bytes.
-pub const FIRST_STEP: usize = 16;
 
 // How a walk ends: at a node, or at a step that is not allowed.
 enum WalkEnd {
@@ -127,7 +124,7 @@ pub fn light_valid(
     let head = light_read::read_head(light);
     let start = start_of(head);
     if start_free(file, board, sizes, start) {
-        match walk_steps(file, board, sizes, index, light, FIRST_STEP, start) {
+        match walk_steps(file, board, sizes, index, light, light::FIRST_STEP, start) {
             WalkEnd::At(b) => at_goal(b, head),
             WalkEnd::NotAllowed => false,
         }
@@ -182,7 +179,7 @@ pub fn light_named(sizes: Sizes, light: &[u8]) -> bool
 {
     let head = light_read::read_head(light);
     if head_named(sizes, head) {
-        motions_named(light, FIRST_STEP, sizes.motions)
+        motions_named(light, light::FIRST_STEP, sizes.motions)
     } else {
         false
     }

@@ -19,8 +19,9 @@ use Rattle.meaning.proofs.BoardLaws.{mark-append, length-mark}
 use Rattle.site_sweeps.specs.Places.{sweepAt, sweepsAt, SweepIs}
 use Rattle.site_sweeps.specs.declared.Sweep as ReadSweep
 use Rattle.site_sweeps.proofs.Laws.{restAt, rest-whole, rest-none, rest-next}
-use Rattle.light_read.specs.Steps.{headOf, laidFrom, stepsFrom}
-use Rattle.light_read.specs.declared.Head.{Head}
+use Rattle.light.specs.Heads.{headOf}
+use Rattle.light.specs.declared.Head.{Head}
+use Rattle.light_read.specs.Steps.{laidFrom, stepsFrom}
 use Rattle.light_read.proofs.HeadLaws.{accepted}
 use Rattle.light_read.proofs.StepLaws.{On}
 use Rattle.site.specs.declared.Sizes.{Sizes}

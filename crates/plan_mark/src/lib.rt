@@ -130,7 +130,7 @@ pub fn mark_light(file: &[u8], board: &mut [u8], sizes: Sizes, index: &[u16; 200
         sizes,
         index,
         light,
-        plan_check::FIRST_STEP,
+        light::FIRST_STEP,
         start,
         head.tug,
     );

@@ -24,6 +24,7 @@ use Rattle.search_step.specs.Sets.{Closed, Explored}
 use Rattle.search_reach.specs.Decoded.{Sweeps, Starts, ReachedRows}
 use Rattle.search_back.specs.Words.{arrivalIn, Sets}
 use Rattle.search_back.proofs.SetsLaws.{sets-right}
+use Rattle.light.specs.Sizes.{lightLength}
 use Rattle.light_write.specs.Codes.{stepsIn}
 use Rattle.light_write.proofs.CodeLaws.{length-steps}
 use Rattle.search_trace.specs.Turns.{Search, Found}
@@ -150,7 +151,7 @@ module _ (file board : List ℕ) (l : Sizes) (start tick goal : ℕ) (q : Asked 
     unfolding Planned
     route-is = plan
 
-    pub fits : (count ≤ 1000) × (arrival ≤ 1000) × (16 + 5 * count ≤ lightRoom site)
+    pub fits : (count ≤ 1000) × (arrival ≤ 1000) × (lightLength count ≤ lightRoom site)
     fits =
         let (laid, named, late, in-time) = found-steps site site-well f (node start tick) goal route route-is in
         let many = length-steps path count in
@@ -166,14 +167,15 @@ module _ (file board : List ℕ) (l : Sizes) (start tick goal : ℕ) (q : Asked 
     unfolding grantedLight bytesView
     light-is tug = simp route-is
 
-    pub found-route : (tug : ℕ) → Answer.Route (16 + 5 * count) arrival ≡ foundOf (routeOn file board start tick goal) (lightOn file board tug start tick goal)
+    pub found-route : (size : ℕ) → size ≡ lightLength count → (tug : ℕ)
+        → Answer.Route size arrival ≡ foundOf (routeOn file board start tick goal) (lightOn file board tug start tick goal)
     unfolding foundOf
-    found-route tug =
-        let size : length (encode (written (edition board) tug)) ≡ 16 + 5 * count =
-        length-encode (written (edition board) tug) ∙ ap (λ (n : ℕ). 16 + 5 * n) (length-steps path count) in
+    found-route size told tug =
+        let many : length (encode (written (edition board) tug)) ≡ size =
+        length-encode (written (edition board) tug) ∙ ap lightLength (length-steps path count) ∙ sym told in
         sym (ap (λ (o : Option Route). foundOf o (lightOn file board tug start tick goal)) route-is
         ∙ ap (foundOf (some route)) (light-is tug)
-        ∙ ap (λ (n : ℕ). Answer.Route n arrival) size)
+        ∙ ap (λ (n : ℕ). Answer.Route n arrival) many)
 
     pub out-light : (tug e : ℕ) (out now : List ℕ) → e ≡ edition board → now ≡ over (encode (written e tug)) out
         → now ≡ outOf (routeOn file board start tick goal) (lightOn file board tug start tick goal) out

@@ -1,4 +1,5 @@
 // The search of a route call on an accepted site: the plan with the least arrival, and its light.
+use light::Head;
 use site::Sizes;
 ghost use mathlib.Core.Path.{_≡_};
 ghost use Prim.Native.Nat.{_≤_};
@@ -96,18 +97,16 @@ pub fn find(
     ) {
         Plan::Steps(count, arrival) => {
             let edition = board::read_edition(board);
-            light_write::write_light(
-                out,
-                &path,
-                count,
+            let head = Head {
                 edition,
                 tug,
                 start,
                 tick,
                 goal,
-                arrival as u16,
-            );
-            Found::Route((16 + 5 * count) as u16, arrival as u16)
+                arrival: arrival as u16,
+            };
+            light_write::write_light(out, &path, count, head);
+            Found::Route(light::length_of(count) as u16, arrival as u16)
         }
         Plan::Missing => Found::Nothing,
     }

@@ -10,7 +10,7 @@ use Rattle.meaning.specs.Site.{siteOf, stateAt}
 use Rattle.meaning.specs.Board.{isTug, stands}
 use Rattle.meaning.specs.Light.{Light, isLight, lightOf}
 use Rattle.meaning.specs.Calls.{lightNamed, bytesView}
-use Rattle.light_read.specs.declared.Head.{Head}
+use Rattle.light.specs.declared.Head.{Head}
 use Rattle.checks.proofs.Laws.{told}
 use Rattle.checks_light.proofs.Laws.{goal-below, ready-index, number-8, number-9, number-10, number-11, number-12, past-12}
 use Rattle.checks_light.proofs.light_later.Statement.{statement}

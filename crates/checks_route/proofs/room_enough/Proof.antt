@@ -12,11 +12,8 @@ use Rattle.checks.proofs.Laws.{size-small}
 use Rattle.checks_route.proofs.room_enough.Statement.{statement}
 use Rattle.checks_route.proofs.room_enough.Tie as tie
 
-mul-if1 : tie.Need-mul-if1
-mul-if1 c = search needs
-
-add-if1 : tie.Need-add-if1
-add-if1 c = search needs
+length-of-requires : tie.Need-length-of-requires
+length-of-requires c κs = search needs
 
 returns : tie.Need-returns
 returns c = λ site areas says out words. out-short site areas (omega arith)
@@ -37,4 +34,4 @@ returns-2 c = λ site areas says out words.
     ap (λ (n : ℕ). leb n (a .work-len)) same ∙ ap (λ (n : ℕ). leb (wordsNeeded site) n) (sym words) ∙ words-tell site areas (omega arith)
 
 pub room-enough-spec : {M : Type 1} → statement M
-room-enough-spec = tie.close (tie.spec mul-if1 add-if1 returns add-result mul-result returns-2)
+room-enough-spec = tie.close (tie.spec length-of-requires returns add-result mul-result returns-2)

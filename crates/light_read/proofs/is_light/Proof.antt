@@ -3,12 +3,13 @@
 use mathlib.Core.Path.{sym, _∙_}
 use Rattle.fields.proofs.Laws.{is-end, is-cut, is-field, at-end}
 use Rattle.light_read.proofs.HeadLaws.{light-long, light-cut, light-end, light-field}
+use native.Mathlib.Omega.{arith}
 use borrow.Author.Needs.{needs}
 use Rattle.light_read.proofs.is_light.Statement.{statement}
 use Rattle.light_read.proofs.is_light.Tie as tie
 
 returns : tie.Need-returns
-returns c = sym (light-long _ (c .if1 .taken))
+returns c = sym (light-long _ (omega (arith, c .if1 .taken)))
 
 read-item-requires : tie.Need-read-item-requires
 read-item-requires c κs = search needs

@@ -11,8 +11,8 @@ use borrow.Author.Needs.{needs}
 use Rattle.light_write.proofs.write_code.Statement.{statement}
 use Rattle.light_write.proofs.write_code.Tie as tie
 
-write-wait-requires : tie.Need-write-wait-requires
-write-wait-requires c κs = search needs
+write-step-requires : tie.Need-write-step-requires
+write-step-requires c κs = search needs
 
 same-length : tie.Need-same-length
 same-length c = search needs
@@ -20,10 +20,10 @@ same-length c = search needs
 returns : tie.Need-returns
 returns c =
     let a = c .before .before .before .before .before .before .args in
-    c .before .before .write-wait .ensures ∙ ap (λ (p : Step). placed (a .at) (fieldBytes (stepField p)) (a .out .now)) (code-wait (a .code) (omega arith))
+    c .before .before .write-step .ensures ∙ ap (λ (p : Step). placed (a .at) (fieldBytes (stepField p)) (a .out .now)) (code-wait (a .code) (omega arith))
 
-write-move-requires : tie.Need-write-move-requires
-write-move-requires c κs = search needs
+write-step-requires-2 : tie.Need-write-step-requires-2
+write-step-requires-2 c κs = search needs
 
 same-length-2 : tie.Need-same-length-2
 same-length-2 c = search needs
@@ -31,9 +31,9 @@ same-length-2 c = search needs
 returns-2 : tie.Need-returns-2
 returns-2 c =
     let a = c .before .before .before .before .before .before .args in
-    c .before .before .write-move .ensures ∙ ap (λ (p : Step). placed (a .at) (fieldBytes (stepField p)) (a .out .now)) (code-move (a .code) (omega arith))
+    c .before .before .write-step2 .ensures ∙ ap (λ (p : Step). placed (a .at) (fieldBytes (stepField p)) (a .out .now)) (code-move (a .code) (omega arith))
 
 pub write-code-spec : {M : Type 1} → statement M
 write-code-spec =
     tie.close
-    (tie.spec write-wait-requires same-length returns write-move-requires same-length-2 returns-2)
+    (tie.spec write-step-requires same-length returns write-step-requires-2 same-length-2 returns-2)

@@ -49,34 +49,46 @@ high-requires-6 c κs = search needs
 low-requires-6 : tie.Need-low-requires-6
 low-requires-6 c κs = search needs
 
-slice-aggregate-put : tie.Need-slice-aggregate-put
-slice-aggregate-put c = search needs
+slice-aggregate-copy : tie.Need-slice-aggregate-copy
+slice-aggregate-copy c = search needs
 
-put-requires : tie.Need-put-requires
-put-requires c κs = search needs
+copy-requires : tie.Need-copy-requires
+copy-requires c κs = search needs
 
 same-length : tie.Need-same-length
 same-length c = search needs
 
 returns : tie.Need-returns
 returns c =
-    let n = c .before .before .before .before .before .before .before .before .before .before .before .before .before .before .before .before .before .before .args .edition in
+    let l6 = c .before .before .before .before .before in
+    let h6 = l6 .before in
+    let l5 = h6 .before in
+    let h5 = l5 .before in
+    let l4 = h5 .before in
+    let h4 = l4 .before in
+    let l3 = h4 .before in
+    let h3 = l3 .before in
+    let l2 = h3 .before in
+    let h2 = l2 .before in
+    let l1 = h2 .before in
+    let h1 = l1 .before in
+    let n = h1 .before .before .before .before .args .head .edition in
     let third : n % 65536 / 256 % 256 ≡ n / 256 % 256 = omega arith in
     let fourth : n % 65536 % 256 ≡ n % 256 = omega arith in
-    c .before .before .put .ensures
+    c .before .before .copy .ensures .1
     ∙ rw (
-      c .before .before .before .before .before .before .before .before .before .before .before .before .before .before .before .before .high .ensures,
-      c .before .before .before .before .before .before .before .before .before .before .before .before .before .before .before .low .ensures,
-      c .before .before .before .before .before .before .before .before .before .before .before .before .before .before .high2 .ensures,
-      c .before .before .before .before .before .before .before .before .before .before .before .before .before .low2 .ensures,
-      c .before .before .before .before .before .before .before .before .before .before .before .before .high3 .ensures,
-      c .before .before .before .before .before .before .before .before .before .before .before .low3 .ensures,
-      c .before .before .before .before .before .before .before .before .before .before .high4 .ensures,
-      c .before .before .before .before .before .before .before .before .before .low4 .ensures,
-      c .before .before .before .before .before .before .before .before .high5 .ensures,
-      c .before .before .before .before .before .before .before .low5 .ensures,
-      c .before .before .before .before .before .before .high6 .ensures,
-      c .before .before .before .before .before .low6 .ensures,
+      h1 .high .ensures,
+      l1 .low .ensures,
+      h2 .high2 .ensures,
+      l2 .low2 .ensures,
+      h3 .high3 .ensures,
+      l3 .low3 .ensures,
+      h4 .high4 .ensures,
+      l4 .low4 .ensures,
+      h5 .high5 .ensures,
+      l5 .low5 .ensures,
+      h6 .high6 .ensures,
+      l6 .low6 .ensures,
       third,
       fourth,
     )
@@ -99,7 +111,7 @@ write-head-spec =
     low-requires-5
     high-requires-6
     low-requires-6
-    slice-aggregate-put
-    put-requires
+    slice-aggregate-copy
+    copy-requires
     same-length
     returns)

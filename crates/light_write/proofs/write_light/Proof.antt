@@ -1,7 +1,7 @@
 -- `light_write::write_light` meets its contract: the head is written after the steps.
 -- Assumes nothing.
 use mathlib.Core.Path.{_∙_}
-use Rattle.light_write.specs.Areas.{lightWith}
+use Rattle.light.specs.Heads.{lightWith}
 use Rattle.light_write.specs.Codes.{stepsIn}
 use Rattle.light_write.proofs.CodeLaws.{length-steps, light-written}
 use native.Mathlib.Omega.{arith}
@@ -24,7 +24,7 @@ returns c =
     let s = w .before .before .before .before in
     let a = s .before .before .before .args in
     w .write-head .ensures
-    ∙ light-written (lightWith (a .edition) (a .tug) (a .start) (a .tick) (a .goal) (a .arrival) (stepsIn (a .path .now) (a .count))) (a .count) (a .out .now) _
+    ∙ light-written (lightWith (a .head) (stepsIn (a .path .now) (a .count))) (a .count) (a .out .now) _
     (length-steps (a .path .now) (a .count)) (omega arith) (s .write-steps .ensures)
 
 pub write-light-spec : {M : Type 1} → statement M

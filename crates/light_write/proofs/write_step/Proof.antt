@@ -1,8 +1,7 @@
--- `light_write::write_step` meets its contract.
+-- `light_write::write_step` meets its contract: the field is copied to the front of what is left of the area.
 -- Assumes nothing.
-use mathlib.Core.Path.{_∙_}
 use borrow.Author.Needs.{needs}
-use Rattle.light_write.proofs.Laws.{step-bytes}
+use Rattle.light_write.proofs.Laws.{step-copied}
 use Rattle.light_write.proofs.write_step.Statement.{statement}
 use Rattle.light_write.proofs.write_step.Tie as tie
 
@@ -12,22 +11,40 @@ high-requires c κs = search needs
 low-requires : tie.Need-low-requires
 low-requires c κs = search needs
 
-slice-aggregate-put : tie.Need-slice-aggregate-put
-slice-aggregate-put c = search needs
+slice-aggregate-copy : tie.Need-slice-aggregate-copy
+slice-aggregate-copy c = search needs
 
-put-requires : tie.Need-put-requires
-put-requires c κs = search needs
+sub-copy : tie.Need-sub-copy
+sub-copy c = search needs
+
+part-copy-start : tie.Need-part-copy-start
+part-copy-start c = search needs
+
+part-copy-end : tie.Need-part-copy-end
+part-copy-end c = search needs
+
+copy-requires : tie.Need-copy-requires
+copy-requires c κs = search needs
 
 same-length : tie.Need-same-length
 same-length c = search needs
 
 returns : tie.Need-returns
 returns c =
-    let a = c .before .before .before .before .before .before .before .before .args in
-    c .before .before .put .ensures
-    ∙ step-bytes (a .at) (a .tag) (a .n) _ _ (a .out .now) (c .before .before .before .before .before .before .high .ensures) (c .before .before .before .before .before .low .ensures)
+    let f = c .before .before .before .before .before in
+    let a = f .before .before .before .args in
+    step-copied (a .at) _ _ _ _ (a .out .now) _ (f .before .high .ensures) (f .low .ensures) (c .before .before .copy .ensures .1)
 
 pub write-step-spec : {M : Type 1} → statement M
 write-step-spec =
     tie.close
-    (tie.spec high-requires low-requires slice-aggregate-put put-requires same-length returns)
+    (tie.spec
+    high-requires
+    low-requires
+    slice-aggregate-copy
+    sub-copy
+    part-copy-start
+    part-copy-end
+    copy-requires
+    same-length
+    returns)

@@ -1,7 +1,8 @@
 -- `light_write::write_steps` meets its contract. The loop's invariant: the first i codes are written.
 -- Assumes nothing.
-use Prim.Native.Nat.{_≤_, _-_, _+_, _*_}
+use Prim.Native.Nat.{_≤_, _-_}
 use mathlib.Core.Path.{refl}
+use Rattle.light.specs.Sizes.{lightLength}
 use Rattle.light_write.proofs.CodeLaws.{Written, written-none, written-more, written-all}
 use borrow.Author.Needs.{needs}
 use native.Mathlib.Omega.{arith}
@@ -9,19 +10,16 @@ use Rattle.light_write.proofs.write_steps.Statement.{statement}
 use Rattle.light_write.proofs.write_steps.Tie as tie
 
 abbrev Inv-loop : tie.InvT-loop
-Inv-loop out₀ path count i₀ at₀ out i at = (i ≤ count) × Written path out₀ out (16 + 5 * count) i at
+Inv-loop out₀ path count i₀ at₀ out i at = (i ≤ count) × Written path out₀ out (lightLength count) i at
 
 abbrev μ-loop : tie.MeasureT-loop
 μ-loop out₀ path count i₀ at₀ out i at = count - i
 
-mul-at : tie.Need-mul-at Inv-loop μ-loop
-mul-at c = search needs
-
-add-at : tie.Need-add-at Inv-loop μ-loop
-add-at c = search needs
+length-of-requires : tie.Need-length-of-requires Inv-loop μ-loop
+length-of-requires c κs = search needs
 
 loop-holds : tie.Need-loop-holds Inv-loop μ-loop
-loop-holds c = (omega arith, written-none _ _ _)
+loop-holds c = (omega arith, written-none _ _ _ _ (c .length-of .ensures))
 
 sub-at : tie.Need-sub-at Inv-loop μ-loop
 sub-at c = search needs
@@ -59,8 +57,7 @@ write-steps-spec =
     (tie.spec
     Inv-loop
     μ-loop
-    mul-at
-    add-at
+    length-of-requires
     loop-holds
     sub-at
     mul-write-code

@@ -1,11 +1,12 @@
 -- `search::find` meets its contract: the light of the plan that the search leaves.
 -- Assumes nothing.
-use Prim.Native.Nat.{_+_, _*_, _≤_}
+use Prim.Native.Nat.{_≤_}
 use mathlib.Core.Path.{subst}
 use native.Mathlib.Omega.{arith}
 use borrow.Author.Needs.{needs}
 use Rattle.meaning.specs.Site.{siteOf}
 use Rattle.meaning.specs.Calls.{lightRoom}
+use Rattle.light.specs.Sizes.{lightLength}
 use Rattle.search.specs.declared.Plan.the-variants.{Steps}
 use Rattle.search.specs.Finds.{routeOn, Planned}
 use Rattle.search.proofs.Laws.{fits, found-route, out-light, found-nothing, out-same}
@@ -22,7 +23,7 @@ plan : (c : tie.After-count)
 plan c = subst (Planned _ _) (c .count .given .1) (c .before .before .search .ensures)
 
 plan-fits : (c : tie.After-count)
-    → (c .count .given .0 .0 ≤ 1000) × (c .count .given .0 .1 .0 ≤ 1000) × (16 + 5 * c .count .given .0 .0 ≤ lightRoom (siteOf (start c .args .file .now)))
+    → (c .count .given .0 .0 ≤ 1000) × (c .count .given .0 .1 .0 ≤ 1000) × (lightLength (c .count .given .0 .0) ≤ lightRoom (siteOf (start c .args .file .now)))
 plan-fits c = fits _ (start c .args .board .now) _ _ _ _ (start c .pre .0) _ _ _ (plan c)
 
 search-requires : tie.Need-search-requires
@@ -34,25 +35,22 @@ enum-known-count c = search needs
 read-edition-requires : tie.Need-read-edition-requires
 read-edition-requires c κs = search needs
 
-cast-write-light : tie.Need-cast-write-light
-cast-write-light c = let f = plan-fits (c .before .before .before .before) in record { fits = omega arith }
+cast-t20 : tie.Need-cast-t20
+cast-t20 c = let f = plan-fits (c .before .before) in record { fits = omega arith }
 
 write-light-requires : tie.Need-write-light-requires
 write-light-requires c κs =
     let f = plan-fits (c .before .before .before .before) in
     (omega arith, omega arith)
 
-mul-t24 : tie.Need-mul-t24
-mul-t24 c = let f = plan-fits (c .before .before .before .before .before .before .before) in record { fits = omega arith }
+length-of-requires : tie.Need-length-of-requires
+length-of-requires c κs = let f = plan-fits (c .before .before .before .before .before .before .before) in omega arith
 
-add-t25 : tie.Need-add-t25
-add-t25 c = let f = plan-fits (c .before .before .before .before .before .before .before) in record { fits = omega arith }
-
-cast-t23 : tie.Need-cast-t23
-cast-t23 c = let f = plan-fits (c .before .before .before .before .before .before .before) in record { fits = omega arith }
+cast-t20-2 : tie.Need-cast-t20-2
+cast-t20-2 c = let f = plan-fits (c .before .before .before .before .before .before .before .before) in record { fits = omega (arith, c .length-of .ensures) }
 
 cast-t26 : tie.Need-cast-t26
-cast-t26 c = let f = plan-fits (c .before .before .before .before .before .before .before) in record { fits = omega arith }
+cast-t26 c = let f = plan-fits (c .before .before .before .before .before .before .before .before) in record { fits = omega arith }
 
 enum-told : tie.Need-enum-told
 enum-told c = search needs
@@ -62,12 +60,12 @@ same-length c = search needs
 
 returns : tie.Need-returns
 returns c =
-    let p = c .before .before .before .before .before .before .before in
+    let p = c .before .before .before .before .before .before .before .before in
     let b = start p in
     let board = b .args .board .now in
-    let e = c .before .before .before .before .before .read-edition .ensures in
-    let w = c .before .before .write-light .ensures in (
-      found-route _ board _ _ _ _ (b .pre .0) _ _ _ (plan p) (b .args .tug),
+    let e = c .before .before .before .before .before .before .read-edition .ensures in
+    let w = c .before .before .before .write-light .ensures in (
+      found-route _ board _ _ _ _ (b .pre .0) _ _ _ (plan p) _ (c .length-of .ensures) (b .args .tug),
       out-light _ board _ _ _ _ (b .pre .0) _ _ _ (plan p) (b .args .tug) _ (b .args .out .now) _ e w,
     )
 
@@ -85,11 +83,10 @@ find-spec =
     search-requires
     enum-known-count
     read-edition-requires
-    cast-write-light
+    cast-t20
     write-light-requires
-    mul-t24
-    add-t25
-    cast-t23
+    length-of-requires
+    cast-t20-2
     cast-t26
     enum-told
     same-length
