@@ -28,7 +28,13 @@ fn sweep_free(file: &[u8], board: &[u8], sizes: Sizes, w: Sweep, t: Tick) -> boo
 {
     let first = time::after(t, Span(w.first as u32));
     let last = time::after(t, Span(w.last as u32));
-    board::run_free(board, sizes.horizon, w.cell, time::number(first), time::number(last))
+    board::run_free(
+        board,
+        sizes.horizon,
+        w.cell,
+        time::number(first),
+        time::number(last),
+    )
 }
 
 // Each swept cell of the motion is free while the motion uses it, where it starts at `t`.
@@ -70,7 +76,13 @@ pub fn wait_allowed(file: &[u8], board: &[u8], sizes: Sizes, a: Node, n: Span) -
     let last = time::after(a.tick, n);
     if time::in_time(last, sizes.horizon) {
         let cell = site::state_cell(file, state);
-        board::run_free(board, sizes.horizon, cell, time::number(a.tick), time::number(last))
+        board::run_free(
+            board,
+            sizes.horizon,
+            cell,
+            time::number(a.tick),
+            time::number(last),
+        )
     } else {
         false
     }

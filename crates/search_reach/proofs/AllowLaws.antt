@@ -49,7 +49,7 @@ module _ (sw : List ℕ) (f : Free) (p n i : ℕ) (lt : i < n) (long : p + 3 * n
       let less : n - i - 1 ≡ n - (i + 1) = omega arith in
       let next : p + 3 * i + 3 ≡ p + 3 * (i + 1) = omega arith in
       ap (λ (ws : List Sweep). sweepsFree f ws t) (sweeps-next sw (p + 3 * i) (n - i) (omega arith) (omega arith))
-      ∙ rw (less, next, is .cell, is .first, is .last)
+      ∙ rw (less, next, ap (λ (w : Sweep). w .cell) (is .same), ap (λ (w : Sweep). w .first) (is .same), ap (λ (w : Sweep). w .last) (is .same))
 
   pub narrowing-turn : (l₀ l l′ : List ℕ) (m : ℕ) → Changed l l′ m (λ (t : ℕ). has l m t && freeFromTo f (r .cell) (t + r .first) (t + r .last))
       → Narrowing sw f l₀ l m p n i → Narrowing sw f l₀ l′ m p n (i + 1)

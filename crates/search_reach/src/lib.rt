@@ -26,14 +26,7 @@ fn allow_one(allowed: &mut [u64], runs: &[u64], sweeps: &[u8], m: usize, place: 
     let mut i = 0;
     while i < count {
         let w = site_sweeps::read_sweep(sweeps, place, i);
-        search_free::narrow_run(
-            allowed,
-            runs,
-            m,
-            w.cell as usize,
-            w.first as usize,
-            w.last as usize,
-        );
+        search_free::narrow_run(allowed, runs, m, w.cell, w.first as usize, w.last as usize);
         i += 1;
     }
 }

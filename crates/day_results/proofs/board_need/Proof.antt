@@ -24,7 +24,7 @@ enum-known-l : tie.Need-enum-known-l
 enum-known-l c = search needs
 
 add-size : tie.Need-add-size
-add-size c = let at = c .before .before .before in omega (arith, short (start at .args .file .now) _ (accepted at))
+add-size c = let at = c .before .before in omega (arith, short (start at .args .file .now) _ (accepted at))
 
 mul-size : tie.Need-mul-size
 mul-size c = let at = c .before .before .before in omega (arith, small (start at .args .file .now) _ (accepted at))

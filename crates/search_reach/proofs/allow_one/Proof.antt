@@ -1,11 +1,12 @@
 -- `search_reach::allow_one` meets its contract: the sweeps that are left, with the row as it is, are the whole test of the row as it was.
 -- Assumes nothing.
 use Prim.Native.Nat.{ℕ, _-_, _≤_}
-use mathlib.Core.Path.{_≡_, refl, _∙_}
+use mathlib.Core.Path.{_≡_, refl, ap, _∙_}
 use mathlib.Core.List.{List}
 use borrow.Author.Needs.{needs}
 use native.Mathlib.Omega.{arith}
 use lib.ListN.{length}
+use Rattle.meaning.specs.Site.{Sweep}
 use Rattle.search_free.specs.Frees.{rowsFree, Runs}
 use Rattle.search_reach.proofs.AllowLaws.{Narrowing, narrowing-start, narrowing-turn, narrowing-end}
 use Rattle.search_reach.proofs.allow_one.Statement.{statement}
@@ -30,18 +31,15 @@ cast-narrow-run c = search needs
 cast-narrow-run-2 : tie.Need-cast-narrow-run-2 Inv-loop μ-loop
 cast-narrow-run-2 c = search needs
 
-cast-narrow-run-3 : tie.Need-cast-narrow-run-3 Inv-loop μ-loop
-cast-narrow-run-3 c = search needs
-
 narrow-run-requires : tie.Need-narrow-run-requires Inv-loop μ-loop
 narrow-run-requires c κs =
-    let read = c .before .before .before .before .read-sweep in
-    let l = c .before .before .before .before .before .before .loop in
-    let b = c .before .before .before .before .before .before .before .before .before .before in
-    let w = read .ensures in
+    let read = c .before .before .before .read-sweep in
+    let l = c .before .before .before .before .before .loop in
+    let b = c .before .before .before .before .before .before .before .before .before in
+    let same = read .ensures .same in
     let cell = b .pre .1 .cell (l .i) (omega arith) in
     let order = b .pre .1 .order (l .i) (omega arith) in
-    ((omega (arith, l .inv .1 .0), (omega (arith, w .cell, cell), (omega (arith, w .first, w .last, order), omega (arith, read .ok)))), b .pre .0 .1)
+    ((omega (arith, l .inv .1 .0), (omega (arith, ap (λ (w : Sweep). w .cell) same, cell), (omega (arith, ap (λ (w : Sweep). w .first) same, ap (λ (w : Sweep). w .last) same, order), omega (arith, read .ok)))), b .pre .0 .1)
 
 add-i : tie.Need-add-i Inv-loop μ-loop
 add-i c = omega arith
@@ -51,8 +49,8 @@ loop-less c = omega arith
 
 loop-again : tie.Need-loop-again Inv-loop μ-loop
 loop-again c =
-    let read = c .before .before .before .before .before .before .before .read-sweep in
-    let in-loop = c .before .before .before .before .before .before .before .before in
+    let read = c .before .before .before .before .before .before .read-sweep in
+    let in-loop = c .before .before .before .before .before .before .before in
     let l = in-loop .before .loop in
     let b = in-loop .before .before .before .before .before in
     let done = c .before .before .narrow-run .ensures in (
@@ -81,7 +79,6 @@ allow-one-spec =
     read-sweep-requires
     cast-narrow-run
     cast-narrow-run-2
-    cast-narrow-run-3
     narrow-run-requires
     add-i
     loop-less
