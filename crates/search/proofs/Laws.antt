@@ -19,17 +19,17 @@ use Rattle.meaning.proofs.TraceLaws.{found-steps}
 use Rattle.meaning.specs.Plan.{node}
 use Rattle.site.specs.declared.Sizes.{Sizes}
 use Rattle.search_free.specs.Frees.{rowsFree}
-use Rattle.search_step.specs.Arrays.{cellAt, States, Motions}
+use Rattle.search_site.specs.Arrays.{cellAt, States, Motions}
 use Rattle.search_step.specs.Sets.{Closed, Explored}
-use Rattle.search_reach.specs.Decoded.{Sweeps, Starts, ReachedRows}
+use Rattle.search_reach.specs.Reached.{Starts, ReachedRows}
 use Rattle.search_back.specs.Words.{arrivalIn, Sets}
 use Rattle.search_back.proofs.SetsLaws.{sets-right}
 use Rattle.light_write.specs.Codes.{stepsIn}
 use Rattle.light_write.proofs.CodeLaws.{length-steps}
 use Rattle.search_trace.specs.Turns.{Search, Found}
 use Rattle.search_trace.proofs.FoundLaws.{routeAfter, route-there, route-nowhere, arrival-found}
-use Rattle.search_site.specs.Decodes.{StatesHeld, MotionsHeld}
-use Rattle.search_site.proofs.Uses.{well, states-fit, motions-fit, sweeps-fit, decoded}
+use Rattle.search_site.specs.Decoded.{Sweeps, StatesDecoded, MotionsDecoded}
+use Rattle.search_site.proofs.DecodedLaws.{well, states-fit, motions-fit, sweeps-fit, decoded}
 use Rattle.search.specs.declared.Plan.the-variants.{Steps, Missing}
 use Rattle.search.specs.declared.Found.the-variants as Answer
 use Rattle.search.specs.Finds.{Asked, routeOn, lightOn, Planned, foundOf, outOf}
@@ -95,16 +95,16 @@ module _ (file board : List ℕ) (l : Sizes) (start tick goal : ℕ) (q : Asked 
 
   -- ---- what the parts leave
 
-  pub states-in : (st : List ℕ) → StatesHeld file st → 512 ≤ length st → States (l .states) st
+  pub states-in : (st : List ℕ) → StatesDecoded file st → 512 ≤ length st → States (l .states) st
   states-in st held = states-fit file (q .read) st held (l .states) same-states
 
-  pub motions-in : (mv : List ℕ) → MotionsHeld file mv → 10000 ≤ length mv → Motions (l .motions) mv
+  pub motions-in : (mv : List ℕ) → MotionsDecoded file mv → 10000 ≤ length mv → Motions (l .motions) mv
   motions-in mv held = motions-fit file (q .read) mv held (l .motions) same-motions
 
-  pub sweeps-in : (mv : List ℕ) → MotionsHeld file mv → Sweeps (l .motions) mv file
+  pub sweeps-in : (mv : List ℕ) → MotionsDecoded file mv → Sweeps (l .motions) mv file
   sweeps-in mv held = sweeps-fit file (q .read) mv held (l .motions) same-motions
 
-  pub sets-in : (st mv fr al re : List ℕ) → StatesHeld file st → MotionsHeld file mv
+  pub sets-in : (st mv fr al re : List ℕ) → StatesDecoded file st → MotionsDecoded file mv
       → ((s : Site) → s .cells ≡ l .cells → s .horizon ≡ l .horizon → (c t : ℕ) → rowsFree fr c t ≡ free s board c t) → Starts (l .motions) mv file fr al
       → Explored (Closed (l .states) (l .motions) st mv fr al) fr (cellAt st start) start tick re → SetsOn file board l start tick st mv fr al re
   sets-in st mv fr al re states moves frees starts explored =

@@ -27,7 +27,7 @@ fn search(
     ensures { λ r. ⌜ Planned (routeOn (now (file .entry)) (now (board .entry)) start tick goal) (now (path .exit)) r ⌝ }
 {
     let states = search_site::decode_states(file, layout.states);
-    let moves = search_site::decode_moves(file, layout.start);
+    let moves = search_site::decode_moves(file, layout.start, layout.motions);
     let frees = search_free::free_rows(board, layout.cells as usize, layout.horizon);
     let mut allowed = [18446744073709551615u64; 32000];
     search_reach::allow_all(&mut allowed, &frees, &moves, file, layout.motions);

@@ -8,9 +8,10 @@ use Rattle.meaning.specs.Board.{free}
 use Rattle.meaning.specs.WellFormed.{WellFormed}
 use Rattle.meaning.specs.Plan.{node}
 use Rattle.search_free.specs.Frees.{rowsFree}
-use Rattle.search_step.specs.Arrays.{cellAt}
+use Rattle.search_site.specs.Arrays.{cellAt}
 use Rattle.search_step.specs.Sets.{Closed, Explored}
-use Rattle.search_reach.specs.Decoded.{Decoded, Starts}
+use Rattle.search_site.specs.Decoded.{Decoded}
+use Rattle.search_reach.specs.Reached.{Starts}
 use Rattle.search_reach.proofs.RightLaws.{has-free, may-start, explored-right}
 use Rattle.search_back.specs.Words.{Sets}
 

@@ -19,8 +19,8 @@ use Rattle.meaning.specs.WellFormed.{WellFormed}
 use Rattle.meaning.proofs.BasicsLaws.{decide, and-left, and-right, every-at, every-nil, every-cons, least-same, least-snoc, least-more, same-test}
 use Rattle.meaning.proofs.ReachLaws.{waited, arrives, word-first, word-next, word-row}
 use Rattle.search_ticks.specs.Rows.{has}
-use Rattle.search_step.specs.Arrays.{cellAt, speedAt, fromAt, toAt, spanAt}
-use Rattle.search_reach.specs.Decoded.{reachedAt, ReachedRows}
+use Rattle.search_site.specs.Arrays.{cellAt, speedAt, fromAt, toAt, spanAt}
+use Rattle.search_reach.specs.Reached.{reachedAt, ReachedRows}
 use Rattle.search_reach.proofs.RightLaws.{wait-made, wait-stands, wait-both, move-made, move-free}
 use Rattle.search_back.specs.Words.{waitHit, moveHit, firstMove, wordAt, arrivalIn, Sets}
 

@@ -12,8 +12,9 @@ use Rattle.meaning.specs.Board.{Free}
 use Rattle.meaning.specs.Plan.{Node, sweepsFree}
 use Rattle.meaning.specs.Reach.{wordBy, rowsTo, wordIn}
 use Rattle.search_ticks.specs.Rows.{has}
-use Rattle.search_step.specs.Arrays.{cellAt, speedAt, fromAt, toAt, spanAt}
-use Rattle.search_reach.specs.Decoded.{Decoded, ReachedRows}
+use Rattle.search_site.specs.Arrays.{cellAt, speedAt, fromAt, toAt, spanAt}
+use Rattle.search_site.specs.Decoded.{Decoded}
+use Rattle.search_reach.specs.Reached.{ReachedRows}
 
 -- a wait of one tick ends in (s, t) and begins in the set
 abbrev pub waitHit : List ℕ → List ℕ → List ℕ → ℕ → ℕ → Bool

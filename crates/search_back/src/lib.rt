@@ -11,8 +11,8 @@ ghost use Rattle.meaning.specs.Board.{Free};
 ghost use Rattle.meaning.specs.WellFormed.{WellFormed};
 ghost use Rattle.meaning.specs.Reach.{wordBy, reachWord};
 ghost use Rattle.meaning.specs.Plan.{node};
-ghost use Rattle.search_step.specs.Arrays.{States, Motions};
-ghost use Rattle.search_reach.specs.Decoded.{ReachedRows};
+ghost use Rattle.search_site.specs.Arrays.{States, Motions};
+ghost use Rattle.search_reach.specs.Reached.{ReachedRows};
 ghost use Rattle.search_back.specs.Words.{waitHit, moveHit, firstMove, arrivalIn, Sets};
 
 // The first tick from `tick` on at which the goal is reached, or the tick after the horizon.
@@ -39,10 +39,10 @@ fn wait_hit(states: &[u16], frees: &[u64], reached: &[u64], n: usize, s: usize, 
     requires { ⌜ (4096 ≤ length (now frees)) × (4096 ≤ length (now reached)) ⌝ }
     ensures { λ r. ⌜ r ≡ waitHit (now (states .entry)) (now (frees .entry)) (now (reached .entry)) s t ⌝ }
 {
-    if states[s * 2 + 1] != 0 {
+    if search_site::speed_of(states, n, s) != 0 {
         return false;
     }
-    let cell = search_step::wide(states[s * 2]);
+    let cell = search_site::cell_of(states, n, s);
     let before = search_ticks::is_set(reached, s, t - 1);
     let left = search_ticks::is_set(frees, cell, t - 1);
     let here = search_ticks::is_set(frees, cell, t);
@@ -63,15 +63,15 @@ fn move_hit(
     requires { ⌜ (k * 16 ≤ length (now allowed)) × (4096 ≤ length (now reached)) ⌝ }
     ensures { λ r. ⌜ r ≡ moveHit (now (moves .entry)) (now (allowed .entry)) (now (reached .entry)) s t m ⌝ }
 {
-    let to = search_step::wide(moves[m * 5 + 1]);
+    let to = search_site::to_of(moves, k, m);
     if to != s {
         return false;
     }
-    let span = search_step::wide(moves[m * 5 + 2]);
+    let span = search_site::span_of(moves, k, m);
     if t < span {
         return false;
     }
-    let from = search_step::wide(moves[m * 5]);
+    let from = search_site::from_of(moves, k, m);
     let before = search_ticks::is_set(reached, from, t - span);
     let may = search_ticks::is_set(allowed, m, t - span);
     before & may

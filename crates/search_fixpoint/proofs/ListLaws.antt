@@ -12,7 +12,7 @@ use lib.Seq.{getD-set-same, getD-set-other}
 use borrow.Author.Tests.{eqb-true, eqb-false}
 use Rattle.meaning.proofs.BasicsLaws.{decide}
 use Rattle.search_ticks.specs.Rows.{has}
-use Rattle.search_step.specs.Arrays.{fromAt, toAt, spanAt, Motions}
+use Rattle.search_site.specs.Arrays.{fromAt, toAt, spanAt, Motions}
 use Rattle.search_step.specs.Sets.{WaitClosed, MoveClosed, Closed, Inside, Step, Moved}
 use Rattle.search_ticks.proofs.BitLaws.{or-zero}
 use Rattle.search_fixpoint.specs.Spread.{Chain, here, next, Listed, MovesClosed, Tried, Noted}

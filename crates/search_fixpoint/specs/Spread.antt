@@ -7,7 +7,7 @@ use mathlib.Core.List.{List}
 use lib.Dec.{eqb}
 use lib.ListN.{getD}
 use Rattle.search_ticks.specs.Rows.{has, total}
-use Rattle.search_step.specs.Arrays.{fromAt}
+use Rattle.search_site.specs.Arrays.{fromAt}
 use Rattle.search_step.specs.Sets.{Pairs, WaitClosed, MoveClosed}
 
 -- the list that starts at a has the motion m: behind each motion of it stands the next, which is a later one

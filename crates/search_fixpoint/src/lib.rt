@@ -4,7 +4,7 @@ ghost use mathlib.Core.Bool.{true, false};
 ghost use Prim.Native.Nat.{ℕ, _*_, _≤_, _<_};
 ghost use lib.ListN.{length, getD};
 ghost use Rattle.search_ticks.specs.Rows.{has, total};
-ghost use Rattle.search_step.specs.Arrays.{States, Motions};
+ghost use Rattle.search_site.specs.Arrays.{States, Motions};
 ghost use Rattle.search_step.specs.Sets.{WaitClosed, MoveClosed, Below, Closed, Going, Settled};
 ghost use Rattle.search_fixpoint.specs.Spread.{Listed, MovesClosed, Tried, Noted, Progress, Unnoted, UnnotedBut, NoneGrown, inTurn};
 
@@ -17,11 +17,19 @@ fn lists_of(moves: &[u16], k: usize) -> [u16; 2256]
     let mut m = k;
     while 0 < m {
         m -= 1;
-        let first = 2000 + search_step::wide(moves[m * 5]);
+        let first = 2000 + search_site::from_of(moves, k, m);
         lists[m] = lists[first];
         lists[first] = m as u16;
     }
     lists
+}
+
+// The number at place i of the lists.
+fn listed_at(lists: &[u16; 2256], i: usize) -> usize
+    requires { ⌜ i < 2256 ⌝ }
+    ensures { λ r. ⌜ r ≡ getD (now (lists .entry)) i 0 ⌝ }
+{
+    search_site::number(lists[i])
 }
 
 // Tries the motions of the list of state s, and notes the states whose sets grow.
@@ -42,12 +50,12 @@ fn move_from(
         → MovesClosed k (now (moves .entry)) (now (allowed .entry)) s (has (now (reached .exit)))) ⌝ }
     ensures { λ _. ⌜ Progress (now (reached .entry)) (now (reached .exit)) (Unnoted (now (grown .entry)) (now (grown .exit))) ⌝ }
 {
-    let mut m = search_step::wide(lists[2000 + s]);
+    let mut m = listed_at(lists, 2000 + s);
     while m < k {
         let new = search_step::move_one(moves, allowed, reached, k, m);
-        let to = search_step::wide(moves[m * 5 + 1]);
+        let to = search_site::to_of(moves, k, m);
         grown[to] = grown[to] | new;
-        let after = search_step::wide(lists[m]);
+        let after = listed_at(lists, m);
         if after <= m {
             return;
         }

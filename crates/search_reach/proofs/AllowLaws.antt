@@ -8,7 +8,7 @@ use mathlib.Core.Bool.{Bool, true, _&&_, and-assoc, and-true}
 use mathlib.Core.List.{List}
 use lib.Dec.{eqb}
 use lib.Pow.{pow-pos}
-use lib.ListN.{length, getD, replicate, length-replicate, getD-replicate}
+use lib.ListN.{length, replicate, length-replicate, getD-replicate}
 use borrow.Author.Tests.{eqb-true, eqb-false}
 use Rattle.meaning.specs.Basics.{all}
 use Rattle.meaning.specs.Site.{Sweep}
@@ -20,63 +20,60 @@ use Rattle.search_ticks.specs.Rows.{has, Changed}
 use Rattle.search_ticks.proofs.BitLaws.{odd-of}
 use Rattle.search_ticks.proofs.RowLaws.{has-is}
 use Rattle.search_free.specs.Frees.{rowsFree}
-use Rattle.site_sweeps.specs.Places.{sweepsAt}
+use Rattle.site_sweeps.specs.declared.Sweep as Read
+use Rattle.site_sweeps.specs.Places.{sweepAt, sweepsAt, SweepIs}
 use Rattle.site_sweeps.proofs.Laws.{sweeps-none, sweeps-next}
-use Rattle.search_reach.specs.Decoded.{sweepsOf, Starts}
-use Rattle.search_step.specs.Arrays.{placeAt, countAt}
+use Rattle.search_site.specs.Decoded.{sweepsOf}
+use Rattle.search_reach.specs.Reached.{Starts}
+use Rattle.search_site.specs.Arrays.{placeAt, countAt}
 
 -- ---- the sweeps of one motion: what is left to test, with the row as it is, is the whole test of the row as it was
 
-pub record Narrowing (sw : List ℕ) (f : Free) (l₀ l : List ℕ) (m p n place i : ℕ) : Type 0 where
-  pub at-place : place ≡ p + i * 3
-  pub left : (t : ℕ) → t < 1024 → (has l m t && sweepsFree f (sweepsAt sw place (n - i)) t) ≡ (has l₀ m t && sweepsFree f (sweepsAt sw p n) t)
+pub record Narrowing (sw : List ℕ) (f : Free) (l₀ l : List ℕ) (m p n i : ℕ) : Type 0 where
+  pub left : (t : ℕ) → t < 1024 → (has l m t && sweepsFree f (sweepsAt sw (p + 3 * i) (n - i)) t) ≡ (has l₀ m t && sweepsFree f (sweepsAt sw p n) t)
   pub others : (x t : ℕ) → (x ≡ m → ⊥) → t < 1024 → has l x t ≡ has l₀ x t
   pub sized : length l ≡ length l₀
 
-pub narrowing-start : (sw : List ℕ) (f : Free) (l : List ℕ) (m p n : ℕ) → Narrowing sw f l l m p n p 0
+pub narrowing-start : (sw : List ℕ) (f : Free) (l : List ℕ) (m p n : ℕ) → Narrowing sw f l l m p n 0
 narrowing-start sw f l m p n =
+    let from : p + 3 * 0 ≡ p = omega arith in
     let whole : n - 0 ≡ n = omega arith in
-    record {
-      at-place = omega arith;
-      left = λ t h. ap (λ (j : ℕ). has l m t && sweepsFree f (sweepsAt sw p j) t) whole;
-      others = λ x t ne h. refl;
-      sized = refl;
-    }
+    record { left = λ t h. rw (from, whole); others = λ x t ne h. refl; sized = refl }
 
-sweeps-first : (sw : List ℕ) (f : Free) (place n i cell first last t : ℕ) → i < n → place + 3 * (n - i) ≤ length sw → cell ≡ getD sw place 0 → first ≡ getD sw (place + 1) 0 → last ≡ getD sw (place + 2) 0
-    → sweepsFree f (sweepsAt sw place (n - i)) t ≡ (freeFromTo f cell (t + first) (t + last) && sweepsFree f (sweepsAt sw (place + 3) (n - (i + 1))) t)
-unfolding all
-sweeps-first sw f place n i cell first last t lt long a b c =
-    let less : n - i - 1 ≡ n - (i + 1) = omega arith in
-    ap (λ (ws : List Sweep). sweepsFree f ws t) (sweeps-next sw place (n - i) (omega arith) long) ∙ rw (less, a, b, c)
+-- one more sweep, as it was read
+module _ (sw : List ℕ) (f : Free) (p n i : ℕ) (lt : i < n) (long : p + 3 * n ≤ length sw) (r : Read.Sweep) (is : SweepIs (sweepAt sw (p + 3 * i)) r) where
+  sweeps-first : (t : ℕ) → sweepsFree f (sweepsAt sw (p + 3 * i) (n - i)) t
+      ≡ (freeFromTo f (r .cell) (t + r .first) (t + r .last) && sweepsFree f (sweepsAt sw (p + 3 * (i + 1)) (n - (i + 1))) t)
+  unfolding all
+  sweeps-first t =
+      let less : n - i - 1 ≡ n - (i + 1) = omega arith in
+      let next : p + 3 * i + 3 ≡ p + 3 * (i + 1) = omega arith in
+      ap (λ (ws : List Sweep). sweepsFree f ws t) (sweeps-next sw (p + 3 * i) (n - i) (omega arith) (omega arith))
+      ∙ rw (less, next, is .cell, is .first, is .last)
 
-pub narrowing-turn : (sw : List ℕ) (f : Free) (l₀ l l′ : List ℕ) (m p n place i cell first last : ℕ) → i < n → p + n * 3 ≤ length sw
-    → cell ≡ getD sw place 0 → first ≡ getD sw (place + 1) 0 → last ≡ getD sw (place + 2) 0
-    → Changed l l′ m (λ (t : ℕ). has l m t && freeFromTo f cell (t + first) (t + last))
-    → Narrowing sw f l₀ l m p n place i → Narrowing sw f l₀ l′ m p n (place + 3) (i + 1)
-narrowing-turn sw f l₀ l l′ m p n place i cell first last lt long a b c step g =
-    let left-long : place + 3 * (n - i) ≤ length sw = omega (arith, g .at-place) in
-    record {
-      at-place = omega (arith, g .at-place);
-      left = λ t h.
-          let rest : Bool = sweepsFree f (sweepsAt sw (place + 3) (n - (i + 1))) t in
-          ap (λ (x : Bool). x && rest) (step .here t h)
-          ∙ and-assoc (has l m t) (freeFromTo f cell (t + first) (t + last)) rest
-          ∙ ap (λ (x : Bool). has l m t && x) (sym (sweeps-first sw f place n i cell first last t lt left-long a b c))
-          ∙ g .left t h;
-      others = λ x t ne h. step .others x t ne h ∙ g .others x t ne h;
-      sized = step .sized ∙ g .sized;
-    }
+  pub narrowing-turn : (l₀ l l′ : List ℕ) (m : ℕ) → Changed l l′ m (λ (t : ℕ). has l m t && freeFromTo f (r .cell) (t + r .first) (t + r .last))
+      → Narrowing sw f l₀ l m p n i → Narrowing sw f l₀ l′ m p n (i + 1)
+  narrowing-turn l₀ l l′ m step g =
+      record {
+        left = λ t h.
+            let rest : Bool = sweepsFree f (sweepsAt sw (p + 3 * (i + 1)) (n - (i + 1))) t in
+            ap (λ (x : Bool). x && rest) (step .here t h)
+            ∙ and-assoc (has l m t) (freeFromTo f (r .cell) (t + r .first) (t + r .last)) rest
+            ∙ ap (λ (x : Bool). has l m t && x) (sym (sweeps-first t))
+            ∙ g .left t h;
+        others = λ x t ne h. step .others x t ne h ∙ g .others x t ne h;
+        sized = step .sized ∙ g .sized;
+      }
 
 no-sweeps : (sw : List ℕ) (f : Free) (place t j : ℕ) → j ≡ 0 → sweepsFree f (sweepsAt sw place j) t ≡ true
 unfolding all
 no-sweeps sw f place t j e = ap (λ (ws : List Sweep). sweepsFree f ws t) (sweeps-none sw place j e)
 
-pub narrowing-end : (sw : List ℕ) (f : Free) (l₀ l : List ℕ) (m p n place i : ℕ) → n ≤ i → Narrowing sw f l₀ l m p n place i
+pub narrowing-end : (sw : List ℕ) (f : Free) (l₀ l : List ℕ) (m p n i : ℕ) → n ≤ i → Narrowing sw f l₀ l m p n i
     → Changed l₀ l m (λ (t : ℕ). has l₀ m t && sweepsFree f (sweepsAt sw p n) t)
-narrowing-end sw f l₀ l m p n place i most g =
+narrowing-end sw f l₀ l m p n i most g =
     record {
-      here = λ t h. sym (and-true (has l m t)) ∙ ap (λ (x : Bool). has l m t && x) (sym (no-sweeps sw f place t (n - i) (omega arith))) ∙ g .left t h;
+      here = λ t h. sym (and-true (has l m t)) ∙ ap (λ (x : Bool). has l m t && x) (sym (no-sweeps sw f (p + 3 * i) t (n - i) (omega arith))) ∙ g .left t h;
       others = g .others;
       sized = g .sized;
     }

@@ -21,8 +21,9 @@ use Rattle.meaning.proofs.TraceLaws.{reached-pair}
 use Rattle.meaning.proofs.MotionLaws.{good-at}
 use Rattle.search_ticks.specs.Rows.{has}
 use Rattle.search_free.specs.Frees.{rowsFree}
-use Rattle.search_reach.specs.Decoded.{Decoded, Starts, reachedAt}
-use Rattle.search_step.specs.Arrays.{cellAt, fromAt}
+use Rattle.search_site.specs.Decoded.{Decoded}
+use Rattle.search_reach.specs.Reached.{Starts, reachedAt}
+use Rattle.search_site.specs.Arrays.{cellAt, fromAt}
 use Rattle.search_step.specs.Sets.{Pairs, WaitClosed, MoveClosed, Below, Closed, Least, Explored}
 
 -- ---- what is allowed

@@ -1,1 +1,1 @@
-pub mod Decoded
+pub mod Reached

@@ -7,20 +7,15 @@ ghost use Rattle.meaning.specs.Plan.{sweepsFree};
 ghost use mathlib.Core.List.{List};
 ghost use Rattle.search_ticks.specs.Rows.{has, Words, Changed};
 ghost use Rattle.search_free.specs.Frees.{rowsFree, Runs};
-ghost use Rattle.search_step.specs.Arrays.{cellAt, States, Motions};
+ghost use Rattle.search_site.specs.Arrays.{cellAt, States, Motions};
 ghost use Rattle.search_step.specs.Sets.{Closed, Explored};
 ghost use Rattle.site_sweeps.specs.Places.{sweepsAt};
-ghost use Rattle.search_reach.specs.Decoded.{SweepsIn, Sweeps, Starts};
-
-fn byte(x: u8) -> usize
-    ensures { λ r. ⌜ (r ≡ x) × (r < 256) ⌝ }
-{
-    x as usize
-}
+ghost use Rattle.search_site.specs.Decoded.{SweepsIn, Sweeps};
+ghost use Rattle.search_reach.specs.Reached.{Starts};
 
 // ---- allowed starts
 
-// Narrows row m down by `count` sweeps, three bytes each, from `place` on.
+// Narrows row m down by the `count` sweeps from `place` on.
 fn allow_one(allowed: &mut [u64], runs: &[u64], sweeps: &[u8], m: usize, place: usize, count: usize)
     requires { ⌜ (m * 16 + 16 ≤ length (now allowed)) × ((25600 ≤ length (now runs)) × Words (now runs)) ⌝ }
     requires { ⌜ SweepsIn (now sweeps) place count ⌝ }
@@ -28,14 +23,17 @@ fn allow_one(allowed: &mut [u64], runs: &[u64], sweeps: &[u8], m: usize, place: 
     ensures { λ _. ⌜ ((f : List ℕ) → Runs f (now (runs .entry)) 1280 → Changed (now (allowed .entry)) (now (allowed .exit)) m
         (λ (t : ℕ). has (now (allowed .entry)) m t && sweepsFree (rowsFree f) (sweepsAt (now (sweeps .entry)) place count) t)) ⌝ }
 {
-    let mut p = place;
     let mut i = 0;
     while i < count {
-        let cell = byte(sweeps[p]);
-        let first = byte(sweeps[p + 1]);
-        let last = byte(sweeps[p + 2]);
-        search_free::narrow_run(allowed, runs, m, cell, first, last);
-        p += 3;
+        let w = site_sweeps::read_sweep(sweeps, place, i);
+        search_free::narrow_run(
+            allowed,
+            runs,
+            m,
+            w.cell as usize,
+            w.first as usize,
+            w.last as usize,
+        );
         i += 1;
     }
 }
@@ -51,8 +49,8 @@ pub fn allow_all(allowed: &mut [u64], frees: &[u64], moves: &[u16], sweeps: &[u8
     search_free::fill_runs(&mut runs, frees);
     let mut m = 0;
     while m < k {
-        let place = search_step::wide(moves[m * 5 + 3]);
-        let count = search_step::wide(moves[m * 5 + 4]);
+        let place = search_site::place_of(moves, k, m);
+        let count = search_site::count_of(moves, k, m);
         allow_one(allowed, &runs, sweeps, m, place, count);
         m += 1;
     }
@@ -78,7 +76,7 @@ pub fn explore(
         (now (frees .entry)) (cellAt (now (states .entry)) start) start tick l ⌝ }
 {
     let mut reached = [0u64; 4096];
-    let cell = search_step::wide(states[start * 2]);
+    let cell = search_site::cell_of(states, n, start);
     if search_ticks::is_set(frees, cell, tick) {
         search_ticks::seed(&mut reached, start, tick);
         search_fixpoint::settle(states, moves, frees, allowed, &mut reached, n, k);

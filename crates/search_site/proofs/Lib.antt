@@ -1,2 +1,2 @@
-pub mod Laws
-pub mod Uses
+pub mod ArrayLaws
+pub mod DecodedLaws

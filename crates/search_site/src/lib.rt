@@ -6,12 +6,82 @@ ghost use lib.ListN.{length};
 ghost use Rattle.meaning.specs.Answers.{accepted};
 ghost use Rattle.meaning.specs.Site.{siteOf, readSite};
 ghost use Rattle.site_layout.specs.Laid.{statePlace};
-ghost use Rattle.search_site.specs.Decodes.{StatesHeld, two, Small, stored, MotionsHeld};
+ghost use Rattle.search_site.specs.Arrays.{States, Motions, cellAt, speedAt, fromAt, toAt, spanAt, placeAt, countAt};
+ghost use Rattle.search_site.specs.Decoded.{StatesDecoded, setTwo, FitsU16, setMotion, MotionsDecoded};
+
+// A number of the arrays, as an index.
+pub fn number(x: u16) -> usize
+    ensures { λ r. ⌜ r ≡ x ⌝ }
+{
+    x as usize
+}
+
+// ---- the numbers of state s: its cell and its speed
+
+pub fn cell_of(states: &[u16], n: usize, s: usize) -> usize
+    requires { ⌜ States n (now states) ⌝ }
+    requires { ⌜ s < n ⌝ }
+    ensures { λ r. ⌜ r ≡ cellAt (now (states .entry)) s ⌝ }
+{
+    number(states[s * 2])
+}
+
+pub fn speed_of(states: &[u16], n: usize, s: usize) -> usize
+    requires { ⌜ States n (now states) ⌝ }
+    requires { ⌜ s < n ⌝ }
+    ensures { λ r. ⌜ r ≡ speedAt (now (states .entry)) s ⌝ }
+{
+    number(states[s * 2 + 1])
+}
+
+// ---- the numbers of motion m: the states from which and to which it leads, its span, and the place and number of its sweeps
+
+pub fn from_of(moves: &[u16], k: usize, m: usize) -> usize
+    requires { ⌜ Motions k (now moves) ⌝ }
+    requires { ⌜ m < k ⌝ }
+    ensures { λ r. ⌜ r ≡ fromAt (now (moves .entry)) m ⌝ }
+{
+    number(moves[m * 5])
+}
+
+pub fn to_of(moves: &[u16], k: usize, m: usize) -> usize
+    requires { ⌜ Motions k (now moves) ⌝ }
+    requires { ⌜ m < k ⌝ }
+    ensures { λ r. ⌜ r ≡ toAt (now (moves .entry)) m ⌝ }
+{
+    number(moves[m * 5 + 1])
+}
+
+pub fn span_of(moves: &[u16], k: usize, m: usize) -> usize
+    requires { ⌜ Motions k (now moves) ⌝ }
+    requires { ⌜ m < k ⌝ }
+    ensures { λ r. ⌜ r ≡ spanAt (now (moves .entry)) m ⌝ }
+{
+    number(moves[m * 5 + 2])
+}
+
+pub fn place_of(moves: &[u16], k: usize, m: usize) -> usize
+    requires { ⌜ Motions k (now moves) ⌝ }
+    requires { ⌜ m < k ⌝ }
+    ensures { λ r. ⌜ r ≡ placeAt (now (moves .entry)) m ⌝ }
+{
+    number(moves[m * 5 + 3])
+}
+
+pub fn count_of(moves: &[u16], k: usize, m: usize) -> usize
+    requires { ⌜ Motions k (now moves) ⌝ }
+    requires { ⌜ m < k ⌝ }
+    ensures { λ r. ⌜ r ≡ countAt (now (moves .entry)) m ⌝ }
+{
+    number(moves[m * 5 + 4])
+}
+
+// ---- the arrays, from the file
 
 // Writes the two numbers of the state s.
 fn put_state(states: &mut [u16; 512], s: usize, cell: u8, speed: u8)
     requires { ⌜ s < 256 ⌝ }
-    ensures { λ _. ⌜ now (states .exit) ≡ two (now (states .entry)) (s * 2) cell speed ⌝ }
+    ensures { λ _. ⌜ now (states .exit) ≡ setTwo (now (states .entry)) (s * 2) cell speed ⌝ }
 {
     states[s * 2] = cell as u16;
     states[s * 2 + 1] = speed as u16;
@@ -20,7 +90,7 @@ fn put_state(states: &mut [u16; 512], s: usize, cell: u8, speed: u8)
 // The cell and the speed of each of the `count` states.
 pub fn decode_states(file: &[u8], count: usize) -> [u16; 512]
     requires { ⌜ (readSite (now file) ≡ accepted (siteOf (now file))) × (count ≡ length (siteOf (now file) .states)) ⌝ }
-    ensures { λ r. ⌜ StatesHeld (now (file .entry)) r ⌝ }
+    ensures { λ r. ⌜ StatesDecoded (now (file .entry)) r ⌝ }
 {
     let mut states = [0u16; 512];
     let mut s = 0;
@@ -35,8 +105,8 @@ pub fn decode_states(file: &[u8], count: usize) -> [u16; 512]
 
 // Writes the five numbers of the motion m.
 fn put_move(moves: &mut [u16; 10000], m: usize, r: Motion)
-    requires { ⌜ (m < 2000) × Small r ⌝ }
-    ensures { λ _. ⌜ now (moves .exit) ≡ stored (now (moves .entry)) (m * 5) r ⌝ }
+    requires { ⌜ (m < 2000) × FitsU16 r ⌝ }
+    ensures { λ _. ⌜ now (moves .exit) ≡ setMotion (now (moves .entry)) (m * 5) r ⌝ }
 {
     moves[m * 5] = r.from as u16;
     moves[m * 5 + 1] = r.to as u16;
@@ -45,17 +115,17 @@ fn put_move(moves: &mut [u16; 10000], m: usize, r: Motion)
     moves[m * 5 + 4] = r.count as u16;
 }
 
-// From, to, span, place and number of sweeps of each motion, in one walk from `start`, where the motions start.
-pub fn decode_moves(file: &[u8], start: usize) -> [u16; 10000]
+// From, to, span, place and number of sweeps of each of the `count` motions, which start at `start`.
+pub fn decode_moves(file: &[u8], start: usize, count: usize) -> [u16; 10000]
     requires { ⌜ (readSite (now file) ≡ accepted (siteOf (now file))) × (start ≡ statePlace (length (siteOf (now file) .states))) ⌝ }
-    ensures { λ r. ⌜ MotionsHeld (now (file .entry)) r ⌝ }
+    requires { ⌜ count ≡ length (siteOf (now file) .motions) ⌝ }
+    ensures { λ r. ⌜ MotionsDecoded (now (file .entry)) r ⌝ }
 {
+    let index = site::motion_index(file, start);
     let mut moves = [0u16; 10000];
-    let mut at = start;
     let mut m = 0;
-    while at < file.len() {
-        put_move(&mut moves, m, site::read_motion(file, at));
-        at = fields::next_field(file, at);
+    while m < count {
+        put_move(&mut moves, m, site::motion_at(file, &index, m));
         m += 1;
     }
     moves

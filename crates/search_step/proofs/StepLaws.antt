@@ -11,7 +11,7 @@ use borrow.Author.Tests.{ltb-true, ltb-false, eqb-true, eqb-false, eq-eqb}
 use Rattle.meaning.proofs.BasicsLaws.{decide, and-left, and-right}
 use Rattle.search_ticks.specs.Rows.{at, has, Grown, Changed, Met, pushed, waited, filled, seeded}
 use Rattle.search_ticks.proofs.RowLaws.{empty-row, grown-start}
-use Rattle.search_step.specs.Arrays.{cellAt, speedAt, fromAt, toAt, spanAt}
+use Rattle.search_site.specs.Arrays.{cellAt, speedAt, fromAt, toAt, spanAt}
 use Rattle.search_step.specs.Sets.{Pairs, WaitClosed, MoveClosed, Inside, Step, Settled, Explored, Waited, Moved}
 
 -- ---- tests

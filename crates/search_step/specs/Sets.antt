@@ -6,7 +6,7 @@ use mathlib.Core.Bool.{Bool, true, false}
 use mathlib.Core.List.{List}
 use lib.ListN.{length}
 use Rattle.search_ticks.specs.Rows.{has, Grown}
-use Rattle.search_step.specs.Arrays.{cellAt, speedAt, fromAt, toAt, spanAt}
+use Rattle.search_site.specs.Arrays.{cellAt, speedAt, fromAt, toAt, spanAt}
 
 -- by state and tick
 abbrev pub Pairs : Type 0

@@ -1,15 +1,8 @@
-// The site in arrays, and what one wait and one motion set of the pairs of state and tick.
-ghost use mathlib.Core.Path.{_≡_};
+// What one wait and one motion set of the pairs of state and tick.
 ghost use Prim.Native.Nat.{_*_, _≤_, _<_};
 ghost use lib.ListN.{length};
-ghost use Rattle.search_step.specs.Arrays.{States, Motions};
+ghost use Rattle.search_site.specs.Arrays.{States, Motions};
 ghost use Rattle.search_step.specs.Sets.{WaitClosed, MoveClosed, Step, Waited, Moved};
-
-pub fn wide(x: u16) -> usize
-    ensures { λ r. ⌜ r ≡ x ⌝ }
-{
-    x as usize
-}
 
 // Sets what waits in state s reach. Answers 0 where nothing was new.
 pub fn wait_one(states: &[u16], frees: &[u64], reached: &mut [u64], n: usize, s: usize) -> u64
@@ -18,10 +11,10 @@ pub fn wait_one(states: &[u16], frees: &[u64], reached: &mut [u64], n: usize, s:
     ensures { λ d. ⌜ Step (WaitClosed (now (states .entry)) (now (frees .entry)) s) (now (reached .entry)) (now (reached .exit)) d ⌝ }
     ensures { λ _. ⌜ Waited (now (states .entry)) (now (frees .entry)) s (now (reached .entry)) (now (reached .exit)) ⌝ }
 {
-    if states[s * 2 + 1] != 0 {
+    if search_site::speed_of(states, n, s) != 0 {
         return 0;
     }
-    let cell = wide(states[s * 2]);
+    let cell = search_site::cell_of(states, n, s);
     search_ticks::fill_row(reached, frees, s, cell)
 }
 
@@ -32,9 +25,9 @@ pub fn move_one(moves: &[u16], allowed: &[u64], reached: &mut [u64], k: usize, m
     ensures { λ d. ⌜ Step (MoveClosed (now (moves .entry)) (now (allowed .entry)) m) (now (reached .entry)) (now (reached .exit)) d ⌝ }
     ensures { λ _. ⌜ Moved (now (moves .entry)) (now (allowed .entry)) m (now (reached .entry)) (now (reached .exit)) ⌝ }
 {
-    let from = wide(moves[m * 5]);
-    let to = wide(moves[m * 5 + 1]);
-    let span = wide(moves[m * 5 + 2]);
+    let from = search_site::from_of(moves, k, m);
+    let to = search_site::to_of(moves, k, m);
+    let span = search_site::span_of(moves, k, m);
     let x = search_ticks::meet(reached, allowed, from, m);
     search_ticks::push(reached, &x, to, span)
 }

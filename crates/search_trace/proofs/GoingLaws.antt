@@ -12,8 +12,8 @@ use Rattle.meaning.specs.WellFormed.{WellFormed}
 use Rattle.meaning.specs.Reach.{reachWord, waitOne}
 use Rattle.meaning.proofs.ReachLaws.{Arrives, found-arrives}
 use Rattle.meaning.proofs.TraceLaws.{found-steps}
-use Rattle.search_step.specs.Arrays.{fromAt, spanAt}
-use Rattle.search_reach.specs.Decoded.{Decoded}
+use Rattle.search_site.specs.Arrays.{fromAt, spanAt}
+use Rattle.search_site.specs.Decoded.{Decoded}
 use Rattle.search_back.specs.Words.{Sets}
 use Rattle.search_trace.specs.Turns.{waitInFront, Search, Found}
 use Rattle.search_trace.proofs.TurnLaws.{ByMotion, said-motion, Rest, rest-wait, rest-move, rest-done}

@@ -5,7 +5,7 @@ ghost use Prim.Native.Nat.{_*_, _≤_, _<_};
 ghost use lib.ListN.{length};
 ghost use Rattle.meaning.specs.Plan.{move};
 ghost use Rattle.meaning.specs.Reach.{waitOne};
-ghost use Rattle.search_step.specs.Arrays.{States, Motions};
+ghost use Rattle.search_site.specs.Arrays.{States, Motions};
 ghost use Rattle.light_write.specs.Codes.{stepOfCode, stepsIn};
 ghost use Rattle.search_trace.specs.Turns.{waitInFront, Search, Found};
 
@@ -73,8 +73,8 @@ pub fn trace_back(
         } else {
             let m = w - 3;
             count = push_move(path, count, m);
-            s = search_step::wide(moves[m * 5]);
-            let span = search_step::wide(moves[m * 5 + 2]);
+            s = search_site::from_of(moves, k, m);
+            let span = search_site::span_of(moves, k, m);
             t -= span;
         }
     }

@@ -6,7 +6,7 @@ use native.Mathlib.Omega.{arith}
 use borrow.Author.Needs.{needs}
 use lib.ListN.{length}
 use Rattle.site.specs.declared.Sizes.{Sizes}
-use Rattle.search_step.specs.Arrays.{States, Motions}
+use Rattle.search_site.specs.Arrays.{States, Motions}
 use Rattle.search_reach.proofs.AllowLaws.{ones-full, ones-long}
 use Rattle.search.proofs.Laws.{Ranges, SetsOn, ranges, same-states, board-fits, states-in, motions-in, sweeps-in, sets-in, missing, found, planned}
 use Rattle.search.proofs.search.Statement.{statement}
@@ -70,7 +70,7 @@ decode-states-requires c κs =
 decode-moves-requires : tie.Need-decode-moves-requires
 decode-moves-requires c κs =
     let b = c .before .before .before in
-    (b .pre .read, ap (λ (k : Sizes). k .start) (b .pre .says))
+    ((b .pre .read, ap (λ (k : Sizes). k .start) (b .pre .says)), ap (λ (k : Sizes). k .motions) (b .pre .says))
 
 cast-free-rows : tie.Need-cast-free-rows
 cast-free-rows c = search needs

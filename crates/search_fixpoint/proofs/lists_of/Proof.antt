@@ -19,26 +19,17 @@ loop-holds c = (omega arith, listing-none _ _ (c .before .pre .few))
 sub-m : tie.Need-sub-m Inv-loop μ-loop
 sub-m c = search needs
 
-mul-wide : tie.Need-mul-wide Inv-loop μ-loop
-mul-wide c = search needs
-
-mul-wide-2 : tie.Need-mul-wide-2 Inv-loop μ-loop
-mul-wide-2 c = search needs
-
-shared-slice-read-wide : tie.Need-shared-slice-read-wide Inv-loop μ-loop
-shared-slice-read-wide c = search needs
-
-wide-requires : tie.Need-wide-requires Inv-loop μ-loop
-wide-requires c κs = search needs
+from-of-requires : tie.Need-from-of-requires Inv-loop μ-loop
+from-of-requires c κs = search needs
 
 add-first : tie.Need-add-first Inv-loop μ-loop
-add-first c = let start = c .before .before .before .before .before in omega (arith, c .wide .ensures, start .pre .from (c .before .before .before .loop .m - 1) (omega arith))
+add-first c = let start = c .before .before .before .before in omega (arith, c .from-of .ensures, start .pre .from (c .before .before .loop .m - 1) (omega arith))
 
 mul-lists : tie.Need-mul-lists Inv-loop μ-loop
-mul-lists c = let start = c .before .before .before .before .before in omega (arith, c .wide .ensures, start .pre .from (c .before .before .before .loop .m - 1) (omega arith))
+mul-lists c = let start = c .before .before .before .before in omega (arith, c .from-of .ensures, start .pre .from (c .before .before .loop .m - 1) (omega arith))
 
 array-read-lists : tie.Need-array-read-lists Inv-loop μ-loop
-array-read-lists c = let start = c .before .before .before .before .before in omega (arith, c .wide .ensures, start .pre .from (c .before .before .before .loop .m - 1) (omega arith))
+array-read-lists c = let start = c .before .before .before .before in omega (arith, c .from-of .ensures, start .pre .from (c .before .before .loop .m - 1) (omega arith))
 
 mul-lists-2 : tie.Need-mul-lists-2 Inv-loop μ-loop
 mul-lists-2 c = search needs
@@ -50,22 +41,22 @@ cast-lists : tie.Need-cast-lists Inv-loop μ-loop
 cast-lists c = search needs
 
 mul-lists-3 : tie.Need-mul-lists-3 Inv-loop μ-loop
-mul-lists-3 c = let start = c .before .before .before .before .before in omega (arith, c .wide .ensures, start .pre .from (c .before .before .before .loop .m - 1) (omega arith))
+mul-lists-3 c = let start = c .before .before .before .before in omega (arith, c .from-of .ensures, start .pre .from (c .before .before .loop .m - 1) (omega arith))
 
 array-write-lists-2 : tie.Need-array-write-lists-2 Inv-loop μ-loop
-array-write-lists-2 c = let start = c .before .before .before .before .before in omega (arith, c .wide .ensures, start .pre .from (c .before .before .before .loop .m - 1) (omega arith))
+array-write-lists-2 c = let start = c .before .before .before .before in omega (arith, c .from-of .ensures, start .pre .from (c .before .before .loop .m - 1) (omega arith))
 
 loop-less : tie.Need-loop-less Inv-loop μ-loop
 loop-less c = search needs
 
 loop-again : tie.Need-loop-again Inv-loop μ-loop
 loop-again c =
-    let turn = c .before .before .before in
+    let turn = c .before .before in
     let start = turn .before .before in
     let a = start .args in (
       omega arith,
-      listing-more (a .k) (a .moves .now) (turn .loop .lists) (turn .loop .m) (c .wide .result) (start .pre .few) (omega arith) (omega arith) (c .wide .ensures)
-          (omega (arith, c .wide .ensures, start .pre .from (turn .loop .m - 1) (omega arith))) (start .pre .from) (turn .loop .inv .1),
+      listing-more (a .k) (a .moves .now) (turn .loop .lists) (turn .loop .m) (c .from-of .result) (start .pre .few) (omega arith) (omega arith) (c .from-of .ensures)
+          (omega (arith, c .from-of .ensures, start .pre .from (turn .loop .m - 1) (omega arith))) (start .pre .from) (turn .loop .inv .1),
     )
 
 returns : tie.Need-returns Inv-loop μ-loop
@@ -79,10 +70,7 @@ lists-of-spec =
     μ-loop
     loop-holds
     sub-m
-    mul-wide
-    mul-wide-2
-    shared-slice-read-wide
-    wide-requires
+    from-of-requires
     add-first
     mul-lists
     array-read-lists

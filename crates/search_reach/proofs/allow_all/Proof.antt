@@ -24,62 +24,22 @@ loop-holds c =
     let start = c .before .before .before .before .before .before in
     (omega arith, (refl, allowing-start _ _ _ _ _ (start .pre .1 .1)))
 
-mul-wide : tie.Need-mul-wide Inv-loop μ-loop
-mul-wide c =
-    let start = c .before .before .before .before .before .before .before .before in
-    omega (arith, start .pre .1 .0 .0 .few)
+place-of-requires : tie.Need-place-of-requires Inv-loop μ-loop
+place-of-requires c κs = search needs
 
-add-wide : tie.Need-add-wide Inv-loop μ-loop
-add-wide c =
-    let start = c .before .before .before .before .before .before .before .before in
-    omega (arith, start .pre .1 .0 .0 .few)
-
-mul-wide-2 : tie.Need-mul-wide-2 Inv-loop μ-loop
-mul-wide-2 c =
-    let start = c .before .before .before .before .before .before .before .before in
-    omega (arith, start .pre .1 .0 .0 .few)
-
-shared-slice-read-wide : tie.Need-shared-slice-read-wide Inv-loop μ-loop
-shared-slice-read-wide c =
-    let start = c .before .before .before .before .before .before .before .before .before in
-    omega (arith, start .pre .1 .0 .0 .long)
-
-wide-requires : tie.Need-wide-requires Inv-loop μ-loop
-wide-requires c κs = omega arith
-
-mul-wide-3 : tie.Need-mul-wide-3 Inv-loop μ-loop
-mul-wide-3 c =
-    let start = c .before .before .before .before .before .before .before .before .before .before in
-    omega (arith, start .pre .1 .0 .0 .few)
-
-add-wide-2 : tie.Need-add-wide-2 Inv-loop μ-loop
-add-wide-2 c =
-    let start = c .before .before .before .before .before .before .before .before .before .before in
-    omega (arith, start .pre .1 .0 .0 .few)
-
-mul-wide-4 : tie.Need-mul-wide-4 Inv-loop μ-loop
-mul-wide-4 c =
-    let start = c .before .before .before .before .before .before .before .before .before .before in
-    omega (arith, start .pre .1 .0 .0 .few)
-
-shared-slice-read-wide-2 : tie.Need-shared-slice-read-wide-2 Inv-loop μ-loop
-shared-slice-read-wide-2 c =
-    let start = c .before .before .before .before .before .before .before .before .before .before .before in
-    omega (arith, start .pre .1 .0 .0 .long)
-
-wide-requires-2 : tie.Need-wide-requires-2 Inv-loop μ-loop
-wide-requires-2 c κs = omega arith
+count-of-requires : tie.Need-count-of-requires Inv-loop μ-loop
+count-of-requires c κs = search needs
 
 slice-aggregate-allow-one : tie.Need-slice-aggregate-allow-one Inv-loop μ-loop
 slice-aggregate-allow-one c = search needs
 
 allow-one-requires : tie.Need-allow-one-requires Inv-loop μ-loop
 allow-one-requires c κs =
-    let in-loop = c .before .before .before .before .before .before in
+    let in-loop = c .before .before .before .before in
     let turn = in-loop .before in
     let b = turn .before .before .before .before .before .before .before in
-    let place = c .before .before .before .before .wide .ensures in
-    let count = c .before .before .wide2 .ensures in
+    let place = c .before .before .before .place-of .ensures in
+    let count = c .before .before .count-of .ensures in
     let runs = turn .before .fill-runs .ensures in
     ((omega (arith, turn .loop .inv .1 .0), (omega (arith, runs .sized), runs .fits)), rw (place, count) (b .pre .1 .0 .1 (turn .loop .m) (in-loop .loop-test .taken)))
 
@@ -91,16 +51,16 @@ loop-less c = omega arith
 
 loop-again : tie.Need-loop-again Inv-loop μ-loop
 loop-again c =
-    let after-wide2 = c .before .before .before .before .before in
-    let after-wide = after-wide2 .before .before in
-    let in-loop = after-wide .before .before in
+    let after-count = c .before .before .before .before .before in
+    let after-place = after-count .before in
+    let in-loop = after-place .before in
     let a = in-loop .before in
     let i = a .loop .inv .1 in
     let done = c .before .before .allow-one .ensures in (
       omega arith,
       (
         done .0 ∙ i .0,
-        allowing-turn _ _ _ _ _ _ _ _ _ (in-loop .loop-test .taken) (after-wide .wide .ensures) (after-wide2 .wide2 .ensures)
+        allowing-turn _ _ _ _ _ _ _ _ _ (in-loop .loop-test .taken) (after-place .place-of .ensures) (after-count .count-of .ensures)
             (done .1 _ (a .before .fill-runs .ensures)) (i .1),
       ),
     )
@@ -119,16 +79,8 @@ allow-all-spec =
     μ-loop
     fill-runs-requires
     loop-holds
-    mul-wide
-    add-wide
-    mul-wide-2
-    shared-slice-read-wide
-    wide-requires
-    mul-wide-3
-    add-wide-2
-    mul-wide-4
-    shared-slice-read-wide-2
-    wide-requires-2
+    place-of-requires
+    count-of-requires
     slice-aggregate-allow-one
     allow-one-requires
     add-m

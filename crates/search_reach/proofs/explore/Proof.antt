@@ -10,36 +10,20 @@ use Rattle.search_step.proofs.StepLaws.{explored-found, explored-nothing}
 use Rattle.search_reach.proofs.explore.Statement.{statement}
 use Rattle.search_reach.proofs.explore.Tie as tie
 
-mul-wide : tie.Need-mul-wide
-mul-wide c =
-    let start = c .before .before .before .before in
-    omega (arith, start .pre .0 .0 .few)
-
-mul-wide-2 : tie.Need-mul-wide-2
-mul-wide-2 c =
-    let start = c .before .before .before .before in
-    omega (arith, start .pre .0 .0 .few)
-
-shared-slice-read-wide : tie.Need-shared-slice-read-wide
-shared-slice-read-wide c =
-    let start = c .before .before .before .before .before in
-    omega (arith, start .pre .0 .0 .long)
-
-wide-requires : tie.Need-wide-requires
-wide-requires c κs = search needs
+cell-of-requires : tie.Need-cell-of-requires
+cell-of-requires c κs = search needs
 
 is-set-requires : tie.Need-is-set-requires
 is-set-requires c κs =
-    let start = c .before .before .before .before .before .before in
-    let b = start in
-    (omega (arith, c .wide .ensures, b .pre .0 .0 .cell (b .args .start) (omega arith)), omega arith)
+    let b = c .before .before .before .before .before in
+    (omega (arith, c .cell-of .ensures, b .pre .0 .0 .cell (b .args .start) (omega arith)), omega arith)
 
 slice-aggregate-seed : tie.Need-slice-aggregate-seed
 slice-aggregate-seed c = search needs
 
 seed-requires : tie.Need-seed-requires
 seed-requires c κs =
-    let start = c .before .before .before .before .before .before .before .before .before in
+    let start = c .before .before .before .before .before .before .before .before in
     (omega (arith, start .pre .0 .0 .few), omega arith)
 
 slice-aggregate-settle : tie.Need-slice-aggregate-settle
@@ -47,7 +31,7 @@ slice-aggregate-settle c = search needs
 
 settle-requires : tie.Need-settle-requires
 settle-requires c κs =
-    let b = c .before .before .before .before .before .before .before .before .before .before .before .before in
+    let b = c .before .before .before .before .before .before .before .before .before .before .before in
     (b .pre .0, (omega arith, (omega arith, omega (arith, c .before .before .seed .ensures .sized))))
 
 returns : tie.Need-returns
@@ -55,28 +39,24 @@ returns c =
     let after-seed = c .before .before .before .before in
     let then1 = after-seed .before .before in
     let after-is-set = then1 .before in
-    let after-wide = after-is-set .before in
-    let start = after-wide .before .before .before .before .before .before in
+    let after-cell = after-is-set .before in
+    let start = after-cell .before .before .before .before .before in
     let b = start .args in
-    let free = ap (λ (x : ℕ). has (b .frees .now) x (b .tick)) (sym (after-wide .wide .ensures)) ∙ sym (after-is-set .is-set .ensures) ∙ then1 .if1 .taken in
+    let free = ap (λ (x : ℕ). has (b .frees .now) x (b .tick)) (sym (after-cell .cell-of .ensures)) ∙ sym (after-is-set .is-set .ensures) ∙ then1 .if1 .taken in
     explored-found (Closed (b .n) (b .k) (b .states .now) (b .moves .now) (b .frees .now) (b .allowed .now)) (b .frees .now) _ _ _ (b .start) (b .tick) (omega arith) free
     (after-seed .seed .ensures) (c .before .settle .ensures)
 
 returns-2 : tie.Need-returns-2
 returns-2 c =
-    let start = c .before .before .before .before .before .before .before .before in
-    let b = start .args in
-    let held = ap (λ (x : ℕ). has (b .frees .now) x (b .tick)) (sym (c .before .before .wide .ensures)) ∙ sym (c .before .is-set .ensures) ∙ c .if1 .left in
+    let b = c .before .before .before .before .before .before .before .args in
+    let held = ap (λ (x : ℕ). has (b .frees .now) x (b .tick)) (sym (c .before .before .cell-of .ensures)) ∙ sym (c .before .is-set .ensures) ∙ c .if1 .left in
     explored-nothing (Closed (b .n) (b .k) (b .states .now) (b .moves .now) (b .frees .now) (b .allowed .now)) (b .frees .now) _ (b .start) (b .tick) held
 
 pub explore-spec : {M : Type 1} → statement M
 explore-spec =
     tie.close
     (tie.spec
-    mul-wide
-    mul-wide-2
-    shared-slice-read-wide
-    wide-requires
+    cell-of-requires
     is-set-requires
     slice-aggregate-seed
     seed-requires

@@ -5,17 +5,17 @@ use mathlib.Core.Path.{_≡_, refl, sym, ap, _∙_, subst}
 use mathlib.Core.List.{List}
 use lib.ListN.{length}
 use Rattle.site.proofs.Accepted.{read-laid}
-use Rattle.search_step.specs.Arrays.{cellAt, speedAt}
-use Rattle.search_site.specs.Decodes.{StateHeld}
-use Rattle.search_site.proofs.Laws.{states-more, two-length}
-use Rattle.search_site.proofs.Uses.{well}
+use Rattle.search_site.specs.Arrays.{cellAt, speedAt}
+use Rattle.search_site.specs.Decoded.{StateDecoded}
+use Rattle.search_site.proofs.ArrayLaws.{states-more, set-two-length}
+use Rattle.search_site.proofs.DecodedLaws.{well}
 use native.Mathlib.Omega.{arith}
 use Rattle.search_site.proofs.decode_states.Statement.{statement}
 use Rattle.search_site.proofs.decode_states.Tie as tie
 
 abbrev Inv-loop : tie.InvT-loop
 Inv-loop file count states₀ s₀ states s =
-    (s ≤ count) × (length states ≡ 512) × ((k : ℕ) → k < s → StateHeld file k (cellAt states k) (speedAt states k))
+    (s ≤ count) × (length states ≡ 512) × ((k : ℕ) → k < s → StateDecoded file k (cellAt states k) (speedAt states k))
 
 abbrev μ-loop : tie.MeasureT-loop
 μ-loop file count states₀ s₀ states s = count - s
@@ -58,9 +58,9 @@ loop-again c =
     let put = c .put-state .ensures in
     let size = l .inv .1 in (
       omega arith,
-      ap length put ∙ two-length old (s * 2) (cell .result) (speed .result) ∙ size,
-      subst (λ (xs : List ℕ). (k : ℕ) → k < s + 1 → StateHeld f k (cellAt xs k) (speedAt xs k)) (sym put)
-          (states-more (StateHeld f) old s (cell .result) (speed .result) (omega arith) (l .inv .2) (cell .ensures, speed .ensures)),
+      ap length put ∙ set-two-length old (s * 2) (cell .result) (speed .result) ∙ size,
+      subst (λ (xs : List ℕ). (k : ℕ) → k < s + 1 → StateDecoded f k (cellAt xs k) (speedAt xs k)) (sym put)
+          (states-more (StateDecoded f) old s (cell .result) (speed .result) (omega arith) (l .inv .2) (cell .ensures, speed .ensures)),
     )
 
 returns : tie.Need-returns Inv-loop μ-loop

@@ -4,7 +4,6 @@ use Prim.Native.Nat.{_-_, _<_}
 use Rattle.light_write.specs.Codes.{stepsIn}
 use Rattle.light_write.proofs.CodeLaws.{length-steps}
 use Rattle.search_trace.proofs.GoingLaws.{Going, Motion, going-first, going-wait, going-motion, going-move, going-done}
-use borrow.Author.Needs.{needs}
 use native.Mathlib.Omega.{arith}
 use Rattle.search_trace.proofs.trace_back.Statement.{statement}
 use Rattle.search_trace.proofs.trace_back.Tie as tie
@@ -76,53 +75,32 @@ push-move-requires c κs =
     let l = head (c .before .before) in
     (omega (arith, l .loop .inv .few, length-steps (l .loop .path) (l .loop .count)), below (c .before))
 
-mul-wide : tie.Need-mul-wide Inv-loop μ-loop
-mul-wide c = omega (arith, below (c .before .before))
+from-of-requires : tie.Need-from-of-requires Inv-loop μ-loop
+from-of-requires c κs =
+    let e = c .before .before in
+    (start (head (e .before)) .pre .0 .1, motion e .known)
 
-mul-wide-2 : tie.Need-mul-wide-2 Inv-loop μ-loop
-mul-wide-2 c = omega (arith, below (c .before .before))
-
-shared-slice-read-wide : tie.Need-shared-slice-read-wide Inv-loop μ-loop
-shared-slice-read-wide c =
+span-of-requires : tie.Need-span-of-requires Inv-loop μ-loop
+span-of-requires c κs =
     let e = c .before .before .before in
-    omega (arith, motion e .known, start (head (e .before)) .pre .0 .1 .long)
-
-wide-requires : tie.Need-wide-requires Inv-loop μ-loop
-wide-requires c κs = search needs
-
-mul-wide-3 : tie.Need-mul-wide-3 Inv-loop μ-loop
-mul-wide-3 c = omega (arith, below (c .before .before .before .before))
-
-add-wide : tie.Need-add-wide Inv-loop μ-loop
-add-wide c = omega (arith, below (c .before .before .before .before))
-
-mul-wide-4 : tie.Need-mul-wide-4 Inv-loop μ-loop
-mul-wide-4 c = omega (arith, below (c .before .before .before .before))
-
-shared-slice-read-wide-2 : tie.Need-shared-slice-read-wide-2 Inv-loop μ-loop
-shared-slice-read-wide-2 c =
-    let e = c .before .before .before .before .before in
-    omega (arith, motion e .known, start (head (e .before)) .pre .0 .1 .long)
-
-wide-requires-2 : tie.Need-wide-requires-2 Inv-loop μ-loop
-wide-requires-2 c κs = search needs
+    (start (head (e .before)) .pre .0 .1, motion e .known)
 
 sub-t-2 : tie.Need-sub-t-2 Inv-loop μ-loop
 sub-t-2 c =
-    let e = c .before .before .before .before .before .before in
-    omega (arith, motion e .in-time, c .wide2 .ensures)
+    let e = c .before .before .before .before in
+    omega (arith, motion e .in-time, c .span-of .ensures)
 
 loop-less-2 : tie.Need-loop-less-2 Inv-loop μ-loop
 loop-less-2 c =
-    let e = c .before .before .before .before .before .before in
-    omega (arith, motion e .takes-time, motion e .in-time, c .wide2 .ensures)
+    let e = c .before .before .before .before in
+    omega (arith, motion e .takes-time, motion e .in-time, c .span-of .ensures)
 
 loop-again-2 : tie.Need-loop-again-2 Inv-loop μ-loop
 loop-again-2 c =
-    let e = c .before .before .before .before .before .before in
+    let e = c .before .before .before .before in
     let w = e .before in
     going-move _ _ _ _ _ _ _ _ _ _ _ _ _ _ _ _ _ (w .before .loop-test .taken) (head w .loop .inv) (w .word-at .ensures) (e .if1 .left) (motion e)
-    (c .before .before .wide .ensures) (c .wide2 .ensures) (c .before .before .before .before .push-move .ensures)
+    (c .before .from-of .ensures) (c .span-of .ensures) (c .before .before .push-move .ensures)
 
 returns : tie.Need-returns Inv-loop μ-loop
 returns c = going-done _ _ _ _ _ _ _ _ _ _ _ _ _ (c .loop-test .left) (c .before .loop .inv)
@@ -141,15 +119,8 @@ trace-back-spec =
     loop-again
     sub-m
     push-move-requires
-    mul-wide
-    mul-wide-2
-    shared-slice-read-wide
-    wide-requires
-    mul-wide-3
-    add-wide
-    mul-wide-4
-    shared-slice-read-wide-2
-    wide-requires-2
+    from-of-requires
+    span-of-requires
     sub-t-2
     loop-less-2
     loop-again-2
