@@ -1,15 +1,26 @@
 // The day program: the site from site.bin, an opened board, and a script from standard input, one line for each of its fields.
 // What a field comes to is proved in `day_turns`; here bytes are read, handed over and printed.
+use day_lines::LINE;
+use day_orders::FIELD_HEADER;
+use day_orders::PIECE;
 use day_results::Outcome;
 use day_turns::Opening;
 use libc::STDIN_FILENO;
 use libc::STDOUT_FILENO;
-ghost use Prim.Native.Nat.{_≤_};
+ghost use Prim.Native.Nat.{_+_, _≤_};
 ghost use mathlib.Core.Path.{_≡_};
 ghost use lib.ListN.{length};
 ghost use Rattle.io.specs.Counts.{Counts};
-ghost use Rattle.meaning.specs.Limits.{header, dayArea};
+ghost use Rattle.meaning.specs.Limits.{fieldHeader, header, routeSize, dayArea};
 ghost use Rattle.day_turns.specs.Turns.{Areas};
+
+// One byte more than a site file may have, so that a longer one is seen.
+const FILE: usize = 65537;
+
+// The bytes of an area, and how many 32-bit words one holds.
+const AREA: usize = 65536;
+
+const WORDS: usize = AREA / 4;
 
 // The site file's bytes, as many as fit: none where it cannot be opened.
 fn load(file: &mut [u8]) -> usize
@@ -26,10 +37,10 @@ fn load(file: &mut [u8]) -> usize
 
 // The bytes of one turn: a header, and the value that follows it if a call may have such a one. Answers how many there were.
 fn read_piece(piece: &mut [u8]) -> usize
-    requires { ⌜ 10 ≤ length (now piece) ⌝ }
+    requires { ⌜ fieldHeader + routeSize ≤ length (now piece) ⌝ }
     ensures { λ r. ⌜ Counts r (now (piece .exit)) ⌝ }
 {
-    let got = io::read_full(STDIN_FILENO, &mut piece[..3]);
+    let got = io::read_full(STDIN_FILENO, &mut piece[..FIELD_HEADER]);
     let want = day_orders::wanted(&piece[..got]);
     if want == 0 {
         return got;
@@ -49,9 +60,9 @@ fn run_turn(
     requires { ⌜ header ≤ length (now board) ⌝ }
     ensures { λ r. ⌜ r .light ≤ dayArea ⌝ }
 {
-    let mut piece = [0u8; 10];
+    let mut piece = [0u8; PIECE];
     let n = read_piece(&mut piece);
-    let mut line = [0u8; 64];
+    let mut line = [0u8; LINE];
     let done = day_turns::turn(file, board, out, words, light, &piece[..n], &mut line);
     io::write_all(STDOUT_FILENO, &line[..done.text]);
     done
@@ -75,7 +86,7 @@ fn run_turns(file: &[u8], board: &mut [u8], out: &mut [u8], words: &mut [u32])
 
 // A refusal's line, its number alone.
 fn refuse(number: u8) {
-    let mut line = [0u8; 64];
+    let mut line = [0u8; LINE];
     let n = day_lines::write_line(&mut line, number as u64, 0, 0);
     io::write_all(STDOUT_FILENO, &line[..n]);
 }
@@ -97,9 +108,9 @@ fn run_day(file: &mut [u8], area: &mut [u8], out: &mut [u8], words: &mut [u32])
 }
 
 fn main() {
-    let mut file = [0u8; 65537];
-    let mut area = [0u8; 65536];
-    let mut out = [0u8; 65536];
-    let mut words = [0u32; 16384];
+    let mut file = [0u8; FILE];
+    let mut area = [0u8; AREA];
+    let mut out = [0u8; AREA];
+    let mut words = [0u32; WORDS];
     run_day(&mut file, &mut area, &mut out, &mut words);
 }

@@ -6,6 +6,9 @@ ghost use lib.ListN.{length, take};
 ghost use Rattle.io.specs.Counts.{Counts};
 ghost use Rattle.meaning.specs.Day.{decimal, textOf};
 
+// The longest line has three numbers of 20 digits, two blanks and the line's end.
+pub const LINE: usize = 64;
+
 const BLANK: u8 = 32;
 
 const LINE_END: u8 = 10;
@@ -31,9 +34,8 @@ fn put_number(line: &mut [u8], at: usize, n: u64) -> usize
     at + bytes::copy(&digits[..count], &mut line[at..])
 }
 
-// Writes a line's text at the front of `line`, and answers its length. The longest has three
-// numbers of 20 digits, two blanks and the line's end.
-pub fn write_line(line: &mut [u8; 64], number: u64, edition: u64, arrival: u64) -> usize
+// Writes a line's text at the front of `line`, and answers its length.
+pub fn write_line(line: &mut [u8; LINE], number: u64, edition: u64, arrival: u64) -> usize
     ensures { λ r. ⌜ Counts r (now (line .exit)) ⌝ }
     ensures { λ r. ⌜ take r (now (line .exit)) ≡ textOf (record { number = number; edition = edition; arrival = arrival }) ⌝ }
 {

@@ -4,6 +4,7 @@ use Prim.Native.Nat.{ℕ, zero, suc, _+_, _*_, _≤_, _<_}
 use native.Mathlib.Omega.{arith}
 use mathlib.Core.Path.{_≡_, refl, sym, ap, ap₂, _∙_}
 use mathlib.Core.Bool.{Bool, true, false, _&&_}
+use mathlib.Core.Option.{Option, none, some}
 use mathlib.Core.List.{List, [], _∷_}
 use lib.Dec.{eqb}
 use lib.ListN.{length, getD}
@@ -11,6 +12,7 @@ use borrow.Author.Tests.{eqb-true, le-leb, lt-leb}
 use Rattle.meaning.specs.Limits.{closeTag, withdrawTag, routeTag, postTag, closeSize, withdrawSize, routeSize}
 use Rattle.meaning.specs.Basics.{u16At}
 use Rattle.meaning.specs.Fields.{Field}
+use Rattle.meaning.specs.Calls as C
 use Rattle.meaning.specs.Day.{isField, callOf, wanted}
 use Rattle.meaning.proofs.BasicsLaws.{decide, and-right}
 use Rattle.fields.specs.Places.{fieldAt, Whole}
@@ -18,8 +20,9 @@ use Rattle.fields.specs.declared.Header.{Header}
 use Rattle.fields.proofs.Laws.{whole-length, whole-byte, whole-u16}
 use Rattle.day_orders.specs.declared.Order.{Order}
 use Rattle.day_orders.specs.declared.Order.the-variants.{Close, Withdraw, Route, Post}
+use Rattle.day_orders.specs.declared.Entry.{Entry}
 use Rattle.day_orders.specs.declared.Entry.the-variants.{Call, Bad, End}
-use Rattle.day_orders.specs.Orders.{entryBy, entryCall}
+use Rattle.day_orders.specs.Orders.{entryFor, entryBy, entryCall}
 
 -- ---- how much is read
 
@@ -51,16 +54,22 @@ entry-call light f =
     (λ h. decide (isField f postTag 0) (λ k. rw (e, g, h, k) refl) (λ k. rw (e, g, h, k) refl))))
 
 -- a field is not the script's end
+abbrev is-end : Entry → ℕ
+is-end (Call o) = 0
+is-end Bad = 0
+is-end End = 1
+
+for-no-end : (o : Option C.Call) → is-end (entryFor o) ≡ 0
+for-no-end (some (C.close h cell first last)) = refl
+for-no-end (some (C.withdraw h)) = refl
+for-no-end (some (C.route tug a goal)) = refl
+for-no-end (some (C.post light)) = refl
+for-no-end (some (C.audit light)) = refl
+for-no-end none = refl
+
 pub not-end : (f : Field) → End ≡ entryBy f → ⊥
 unfolding entryBy
-not-end f n =
-    decide (isField f closeTag closeSize) (λ e. no (rw e at n))
-    (λ e. decide (isField f withdrawTag withdrawSize) (λ g. no (rw (e, g) at n))
-    (λ g. decide (isField f routeTag routeSize) (λ h. no (rw (e, g, h) at n))
-    (λ h. decide (isField f postTag 0) (λ k. no (rw (e, g, h, k) at n)) (λ k. let z : End ≡ Bad = rw (e, g, h, k) at n in let y : _≡_ {A = ℕ} 0 1 = cc in omega arith))))
-  where
-    no : {o : Order} → End ≡ Call o → ⊥
-    no z = let y : _≡_ {A = ℕ} 0 1 = cc in omega arith
+not-end f e = let z = ap is-end e ∙ for-no-end (callOf [] f) in omega arith
 
 -- ---- a whole field at the front
 
@@ -86,30 +95,30 @@ module _ (s : List ℕ) (h : Header) (w : Whole s 0 h) where
   first-byte p = let z : h .start + 0 ≡ h .start = omega arith in whole-byte s 0 h w 0 p ∙ ap (λ (k : ℕ). getD s k 0) z
 
   -- what the code returns for each call
-  pub close-entry : (first last : ℕ) → 6 ≤ h .len → isField f closeTag closeSize ≡ true → first ≡ u16At s (h .start + 2) → last ≡ u16At s (h .start + 4)
+  pub close-entry : (first last : ℕ) → closeSize ≤ h .len → isField f closeTag closeSize ≡ true → first ≡ u16At s (h .start + 2) → last ≡ u16At s (h .start + 4)
       → Call (Close (getD s (h .start) 0) (getD s (h .start + 1) 0) first last) ≡ entryBy f
-  unfolding entryBy
+  unfolding entryBy callOf
   close-entry first last p e a b =
       rw (e, first-byte (omega arith), whole-byte s 0 h w 1 (omega arith), whole-u16 s 0 h w 2 (omega arith), whole-u16 s 0 h w 4 (omega arith), a, b) refl
 
-  pub withdraw-entry : 1 ≤ h .len → isField f closeTag closeSize ≡ false → isField f withdrawTag withdrawSize ≡ true
+  pub withdraw-entry : withdrawSize ≤ h .len → isField f closeTag closeSize ≡ false → isField f withdrawTag withdrawSize ≡ true
       → Call (Withdraw (getD s (h .start) 0)) ≡ entryBy f
-  unfolding entryBy
+  unfolding entryBy callOf
   withdraw-entry p c e = rw (c, e, first-byte p) refl
 
-  pub route-entry : (start tick goal : ℕ) → 7 ≤ h .len → isField f closeTag closeSize ≡ false → isField f withdrawTag withdrawSize ≡ false → isField f routeTag routeSize ≡ true
+  pub route-entry : (start tick goal : ℕ) → routeSize ≤ h .len → isField f closeTag closeSize ≡ false → isField f withdrawTag withdrawSize ≡ false → isField f routeTag routeSize ≡ true
       → start ≡ u16At s (h .start + 1) → tick ≡ u16At s (h .start + 3) → goal ≡ u16At s (h .start + 5)
       → Call (Route (getD s (h .start) 0) start tick goal) ≡ entryBy f
-  unfolding entryBy
+  unfolding entryBy callOf
   route-entry start tick goal p c d e a b g =
       rw (c, d, e, first-byte (omega arith), whole-u16 s 0 h w 1 (omega arith), whole-u16 s 0 h w 3 (omega arith), whole-u16 s 0 h w 5 (omega arith), a, b, g) refl
 
   pub post-entry : isField f closeTag closeSize ≡ false → isField f withdrawTag withdrawSize ≡ false → isField f routeTag routeSize ≡ false → isField f postTag 0 ≡ true
       → Call Post ≡ entryBy f
-  unfolding entryBy
+  unfolding entryBy callOf
   post-entry c d e g = rw (c, d, e, g) refl
 
   pub bad-entry : isField f closeTag closeSize ≡ false → isField f withdrawTag withdrawSize ≡ false → isField f routeTag routeSize ≡ false → isField f postTag 0 ≡ false
       → Bad ≡ entryBy f
-  unfolding entryBy
+  unfolding entryBy callOf
   bad-entry c d e g = rw (c, d, e, g) refl

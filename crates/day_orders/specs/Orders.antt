@@ -1,28 +1,28 @@
 -- What the code reads of a script's fields, and the call that it stands for.
 -- Assumes nothing.
 use Prim.Native.Nat.{ℕ}
-use mathlib.Core.Bool.{cond}
 use mathlib.Core.Option.{Option, none, some}
-use mathlib.Core.List.{List}
-use lib.ListN.{getD}
-use Rattle.meaning.specs.Limits.{closeTag, withdrawTag, routeTag, postTag, closeSize, withdrawSize, routeSize}
-use Rattle.meaning.specs.Basics.{u16At}
+use mathlib.Core.List.{List, []}
 use Rattle.meaning.specs.Fields.{Field, Fields, end, cut, next}
 use Rattle.meaning.specs.Calls as C
-use Rattle.meaning.specs.Day.{isField}
+use Rattle.meaning.specs.Day.{callOf}
 use Rattle.day_orders.specs.declared.Order.{Order}
 use Rattle.day_orders.specs.declared.Order.the-variants.{Close, Withdraw, Route, Post}
 use Rattle.day_orders.specs.declared.Entry.{Entry}
 use Rattle.day_orders.specs.declared.Entry.the-variants.{Call, Bad, End}
 
+-- what the code holds of a call; the light of a post is not in the script
+abbrev pub entryFor : Option C.Call → Entry
+entryFor (some (C.close h cell first last)) = Call (Close h cell first last)
+entryFor (some (C.withdraw h)) = Call (Withdraw h)
+entryFor (some (C.route tug a goal)) = Call (Route tug (a .state) (a .tick) goal)
+entryFor (some (C.post light)) = Call Post
+entryFor (some (C.audit light)) = Bad
+entryFor none = Bad
+
 -- a field, by its tag and length
 unfoldable pub entryBy : Field → Entry
-entryBy f =
-    let v : List ℕ = f .value in
-    cond (isField f closeTag closeSize) (Call (Close (getD v 0 0) (getD v 1 0) (u16At v 2) (u16At v 4)))
-    (cond (isField f withdrawTag withdrawSize) (Call (Withdraw (getD v 0 0)))
-    (cond (isField f routeTag routeSize) (Call (Route (getD v 0 0) (u16At v 1) (u16At v 3) (u16At v 5)))
-    (cond (isField f postTag 0) (Call Post) Bad)))
+entryBy f = entryFor (callOf [] f)
 
 -- the first field; one that is cut is no call
 abbrev pub entryOf : Fields → Entry

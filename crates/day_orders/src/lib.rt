@@ -19,7 +19,18 @@ const ROUTE: u8 = 34;
 
 const POST: u8 = 35;
 
+const CLOSE_SIZE: usize = 6;
+
+const WITHDRAW_SIZE: usize = 1;
+
 const ROUTE_SIZE: usize = 7;
+
+const POST_SIZE: usize = 0;
+
+pub const FIELD_HEADER: usize = 3;
+
+// A header and the longest value of a call.
+pub const PIECE: usize = FIELD_HEADER + ROUTE_SIZE;
 
 // A call of the script; the light of a post is the last granted one.
 pub enum Order {
@@ -41,7 +52,7 @@ pub fn wanted(header: &[u8]) -> usize
     ensures { λ r. ⌜ r ≡ wanted (now (header .entry)) ⌝ }
     ensures { λ r. ⌜ r ≤ routeSize ⌝ }
 {
-    if header.len() < 3 {
+    if header.len() < FIELD_HEADER {
         return 0;
     }
     let n = fields::number_at(header, 1);
@@ -69,12 +80,12 @@ fn field_entry(bytes: &[u8], h: Header) -> Entry
     let tag = h.tag;
     let at = h.start;
     let len = h.len;
-    if is_call(tag, len, CLOSE, 6) {
+    if is_call(tag, len, CLOSE, CLOSE_SIZE) {
         let first = fields::u16_at(bytes, at + 2);
         let last = fields::u16_at(bytes, at + 4);
         return Entry::Call(Order::Close(bytes[at], bytes[at + 1], first, last));
     }
-    if is_call(tag, len, WITHDRAW, 1) {
+    if is_call(tag, len, WITHDRAW, WITHDRAW_SIZE) {
         return Entry::Call(Order::Withdraw(bytes[at]));
     }
     if is_call(tag, len, ROUTE, ROUTE_SIZE) {
@@ -83,7 +94,7 @@ fn field_entry(bytes: &[u8], h: Header) -> Entry
         let goal = fields::u16_at(bytes, at + 5);
         return Entry::Call(Order::Route(bytes[at], start, tick, goal));
     }
-    if is_call(tag, len, POST, 0) {
+    if is_call(tag, len, POST, POST_SIZE) {
         return Entry::Call(Order::Post);
     }
     Entry::Bad

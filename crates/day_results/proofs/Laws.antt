@@ -2,10 +2,10 @@
 -- Assumes nothing.
 use Prim.Native.Nat.{ℕ, _+_, _*_, _≤_, _<_, min}
 use native.Mathlib.Omega.{arith}
-use native.Mathlib.Nat.{min-eq-left, min-eq-right, mul-le-mul-right}
+use native.Mathlib.Nat.{min-eq-left, min-eq-right}
 use mathlib.Core.Path.{_≡_, sym, ap, _∙_}
 use mathlib.Core.List.{List}
-use Rattle.meaning.specs.Limits.{header}
+use Rattle.meaning.specs.Limits.{header, cellLimit, horizonLimit}
 use Rattle.meaning.specs.Answers.{lowest, accepted, refused}
 use Rattle.meaning.specs.Site.{siteOf, siteRefusals, readSite}
 use Rattle.meaning.specs.Board.{boardLength}
@@ -19,24 +19,20 @@ module _ (file : List ℕ) (l : Sizes) (e : Check.Passed l ≡ checkOf (readSite
   said : l ≡ sizesOf (siteOf file)
   said = accepted-layout file l e
 
-  pub short : l .horizon ≤ 1000
-  short = rw said (read-well file _ (accepted-read file l e) .horizon-range .1)
+  -- the limits that the board's length asks for
+  pub small : (l .cells ≤ cellLimit) × (l .horizon ≤ horizonLimit)
+  small = let w = read-well file _ (accepted-read file l e) in rw said (w .cells-range .1, w .horizon-range .1)
 
-  pub small : l .cells * (l .horizon + 1) ≤ 255255
-  small =
-      let few : l .cells ≤ 255 = rw said (read-well file _ (accepted-read file l e) .cells-range .1) in
-      let top : l .cells * (l .horizon + 1) ≤ 255 * (l .horizon + 1) = mul-le-mul-right (l .horizon + 1) few in
-      omega (arith, top, short)
+  module _ (size room : ℕ) (long : size ≡ header + l .cells * (l .horizon + 1)) where
+    board-size : boardLength (siteOf file) ≡ size
+    board-size = sym (long ∙ ap (λ (k : Sizes). header + k .cells * (k .horizon + 1)) said)
 
-  board-size : boardLength (siteOf file) ≡ header + l .cells * (l .horizon + 1)
-  board-size = sym (ap (λ (k : Sizes). header + k .cells * (k .horizon + 1)) said)
+    -- all of the area, or a part of it
+    pub takes-all : room < size → room ≡ min (boardLength (siteOf file)) room
+    takes-all h = rw board-size (sym (min-eq-right (omega arith)))
 
-  -- all of the area, or a part of it
-  pub takes-all : (room : ℕ) → room < header + l .cells * (l .horizon + 1) → room ≡ min (boardLength (siteOf file)) room
-  takes-all room h = rw board-size (sym (min-eq-right (omega arith)))
-
-  pub takes-part : (room : ℕ) → header + l .cells * (l .horizon + 1) ≤ room → header + l .cells * (l .horizon + 1) ≡ min (boardLength (siteOf file)) room
-  takes-part room h = rw board-size (sym (min-eq-left h))
+    pub takes-part : size ≤ room → size ≡ min (boardLength (siteOf file)) room
+    takes-part h = rw board-size (sym (min-eq-left h))
 
 pub not-read : (file : List ℕ) (n : ℕ) → Check.Refused n ≡ checkOf (readSite file) → lowest (siteRefusals file) ≡ 0 → ⊥
 not-read file n e z =

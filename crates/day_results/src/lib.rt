@@ -80,7 +80,7 @@ pub fn board_need(file: &[u8], room: usize) -> usize
 {
     match site::check_site(file) {
         Check::Passed(l) => {
-            let size = 4 + l.cells * (l.horizon + 1);
+            let size = board::length_of(l.cells, l.horizon);
             if room < size {
                 return room;
             }

@@ -1,4 +1,5 @@
 // The day program's turns: a call of the script performed on the board, its line, and the opening of the board.
+use day_lines::LINE;
 use day_orders::Entry;
 use day_orders::Order;
 use day_results::CallResult;
@@ -54,7 +55,7 @@ fn perform_line(
     words: &mut [u32],
     light: usize,
     o: Order,
-    line: &mut [u8; 64],
+    line: &mut [u8; LINE],
 ) -> Outcome
     requires { ⌜ Areas (length (now out)) (length (now words)) light ⌝ }
     requires { ⌜ header ≤ length (now board) ⌝ }
@@ -83,7 +84,7 @@ pub fn turn(
     words: &mut [u32],
     light: usize,
     bytes: &[u8],
-    line: &mut [u8; 64],
+    line: &mut [u8; LINE],
 ) -> Outcome
     requires { ⌜ Areas (length (now out)) (length (now words)) light ⌝ }
     requires { ⌜ header ≤ length (now board) ⌝ }

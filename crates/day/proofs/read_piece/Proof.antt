@@ -6,6 +6,7 @@ use mathlib.Core.Path.{sym}
 use mathlib.Core.List.{List, _++_}
 use lib.ListN.{length, drop}
 use Rattle.io.specs.Counts.{Counts}
+use Rattle.meaning.specs.Limits.{fieldHeader, routeSize}
 use lib.Seq.{length-take-le}
 use Rattle.day.proofs.Laws.{counts, read-front, read-part}
 use borrow.Rule.Slice.PartMut.{putMid}
@@ -18,22 +19,22 @@ slice-relend-prefix-read-full : tie.Need-slice-relend-prefix-read-full
 slice-relend-prefix-read-full c = search needs
 
 slice-aggregate-read-full : tie.Need-slice-aggregate-read-full
-slice-aggregate-read-full c = sym (length-take-le 3 (c .before .before .args .piece .now) (omega (arith, c .before .before .pre)))
+slice-aggregate-read-full c = sym (length-take-le fieldHeader (c .before .before .args .piece .now) (omega (arith, c .before .before .pre)))
 
 read-full-requires : tie.Need-read-full-requires
 read-full-requires c κs = search needs
 
--- after the header's read: at most 3 bytes are there, and the buffer is as long as before
+-- after the header's read: no more than a header are there, and the buffer is as long as before
 abbrev start : tie.After-read-full → tie.Start
 start c = c .before .before .before
 
 abbrev back : tie.After-read-full → List ℕ
-back c = c .read-full .last .1 .0 ++ drop 3 (start c .args .piece .now)
+back c = c .read-full .last .1 .0 ++ drop fieldHeader (start c .args .piece .now)
 
 abbrev first : tie.After-slice-known3 → tie.After-read-full
 first c = c .before .before .before .before .before .before .before .before .before
 
-header : (c : tie.After-read-full) → (c .read-full .result ≤ 3) × (10 ≤ length (back c))
+header : (c : tie.After-read-full) → (c .read-full .result ≤ fieldHeader) × (fieldHeader + routeSize ≤ length (back c))
 header c = read-front (start c .args .piece .now) (c .read-full .last .1 .0) (c .read-full .result) (start c .pre) (c .read-full .kept .1 .0) (c .read-full .ensures .0)
 
 header-counts : (c : tie.After-read-full) → Counts (c .read-full .result) (back c)
@@ -71,7 +72,7 @@ read-full-requires-2 c κs = search needs
 
 -- after the value's read
 value : (c : tie.After-slice-known3)
-    → (c .before .before .read-full2 .result ≤ 7)
+    → (c .before .before .read-full2 .result ≤ routeSize)
     × (first c .read-full .result + c .before .before .read-full2 .result
     ≤ length (putMid (first c .read-full .result) (first c .read-full .result + c .before .before .before .before .before .wanted .result - first c .read-full .result) (back (first c)) (c .before .before .read-full2 .last .1 .0)))
 value c =

@@ -6,6 +6,7 @@ use mathlib.Core.Path.{_≡_}
 use mathlib.Core.Bool.{true, false}
 use borrow.Author.Needs.{needs}
 use lib.ListN.{length}
+use Rattle.meaning.specs.Limits.{closeTag, withdrawTag, routeTag, postTag, closeSize, withdrawSize, routeSize}
 use Rattle.meaning.specs.Day.{isField}
 use Rattle.fields.specs.Places.{fieldAt}
 use Rattle.day_orders.proofs.Laws.{told, sized, close-entry, withdraw-entry, route-entry, post-entry, bad-entry}
@@ -26,30 +27,30 @@ abbrev start4 : tie.After-is-call4 → tie.Start
 start4 c = start3 (c .before .before)
 
 -- the length of a call's value, and its room in the bytes
-close-sized : (c : tie.Then1) → let a = start1 (c .before) .args in (a .h .len ≡ 6) × (a .h .start + 6 ≤ length (a .bytes .now))
+close-sized : (c : tie.Then1) → let a = start1 (c .before) .args in (a .h .len ≡ closeSize) × (a .h .start + closeSize ≤ length (a .bytes .now))
 close-sized c =
     let s = start1 (c .before) in
-    sized (s .args .bytes .now) (s .args .h) (s .pre) 32 6 _ (c .before .is-call .ensures) (c .if1 .taken)
+    sized (s .args .bytes .now) (s .args .h) (s .pre) closeTag closeSize _ (c .before .is-call .ensures) (c .if1 .taken)
 
-withdraw-sized : (c : tie.Then2) → let a = start2 (c .before) .args in (a .h .len ≡ 1) × (a .h .start + 1 ≤ length (a .bytes .now))
+withdraw-sized : (c : tie.Then2) → let a = start2 (c .before) .args in (a .h .len ≡ withdrawSize) × (a .h .start + withdrawSize ≤ length (a .bytes .now))
 withdraw-sized c =
     let s = start2 (c .before) in
-    sized (s .args .bytes .now) (s .args .h) (s .pre) 33 1 _ (c .before .is-call2 .ensures) (c .if2 .taken)
+    sized (s .args .bytes .now) (s .args .h) (s .pre) withdrawTag withdrawSize _ (c .before .is-call2 .ensures) (c .if2 .taken)
 
-route-sized : (c : tie.Then3) → let a = start3 (c .before) .args in (a .h .len ≡ 7) × (a .h .start + 7 ≤ length (a .bytes .now))
+route-sized : (c : tie.Then3) → let a = start3 (c .before) .args in (a .h .len ≡ routeSize) × (a .h .start + routeSize ≤ length (a .bytes .now))
 route-sized c =
     let s = start3 (c .before) in
-    sized (s .args .bytes .now) (s .args .h) (s .pre) 34 7 _ (c .before .is-call3 .ensures) (c .if3 .taken)
+    sized (s .args .bytes .now) (s .args .h) (s .pre) routeTag routeSize _ (c .before .is-call3 .ensures) (c .if3 .taken)
 
 -- the tests before that did not hold
-no-close : (c : tie.Else1) → isField (fieldAt (start1 (c .before) .args .bytes .now) 0) 32 6 ≡ false
-no-close c = let s = start1 (c .before) in told (s .args .bytes .now) (s .args .h) (s .pre) 32 6 _ false (c .before .is-call .ensures) (c .if1 .left)
+no-close : (c : tie.Else1) → isField (fieldAt (start1 (c .before) .args .bytes .now) 0) closeTag closeSize ≡ false
+no-close c = let s = start1 (c .before) in told (s .args .bytes .now) (s .args .h) (s .pre) closeTag closeSize _ false (c .before .is-call .ensures) (c .if1 .left)
 
-no-withdraw : (c : tie.Else2) → isField (fieldAt (start2 (c .before) .args .bytes .now) 0) 33 1 ≡ false
-no-withdraw c = let s = start2 (c .before) in told (s .args .bytes .now) (s .args .h) (s .pre) 33 1 _ false (c .before .is-call2 .ensures) (c .if2 .left)
+no-withdraw : (c : tie.Else2) → isField (fieldAt (start2 (c .before) .args .bytes .now) 0) withdrawTag withdrawSize ≡ false
+no-withdraw c = let s = start2 (c .before) in told (s .args .bytes .now) (s .args .h) (s .pre) withdrawTag withdrawSize _ false (c .before .is-call2 .ensures) (c .if2 .left)
 
-no-route : (c : tie.Else3) → isField (fieldAt (start3 (c .before) .args .bytes .now) 0) 34 7 ≡ false
-no-route c = let s = start3 (c .before) in told (s .args .bytes .now) (s .args .h) (s .pre) 34 7 _ false (c .before .is-call3 .ensures) (c .if3 .left)
+no-route : (c : tie.Else3) → isField (fieldAt (start3 (c .before) .args .bytes .now) 0) routeTag routeSize ≡ false
+no-route c = let s = start3 (c .before) in told (s .args .bytes .now) (s .args .h) (s .pre) routeTag routeSize _ false (c .before .is-call3 .ensures) (c .if3 .left)
 
 is-call-requires : tie.Need-is-call-requires
 is-call-requires c κs = search needs
@@ -81,7 +82,7 @@ returns c =
     let s = start1 (at .before) in
     let f = s .args .bytes .now in
     let size = close-sized at in
-    close-entry f (s .args .h) (s .pre) _ _ (omega arith) (told f (s .args .h) (s .pre) 32 6 _ true (at .before .is-call .ensures) (at .if1 .taken))
+    close-entry f (s .args .h) (s .pre) _ _ (omega arith) (told f (s .args .h) (s .pre) closeTag closeSize _ true (at .before .is-call .ensures) (at .if1 .taken))
     (c .before .before .before .u16-at .ensures) (c .before .before .u16-at2 .ensures)
 
 is-call-requires-2 : tie.Need-is-call-requires-2
@@ -96,7 +97,7 @@ returns-2 c =
     let s = start2 (at .before) in
     let f = s .args .bytes .now in
     let size = withdraw-sized at in
-    withdraw-entry f (s .args .h) (s .pre) (omega arith) (no-close (at .before .before)) (told f (s .args .h) (s .pre) 33 1 _ true (at .before .is-call2 .ensures) (at .if2 .taken))
+    withdraw-entry f (s .args .h) (s .pre) (omega arith) (no-close (at .before .before)) (told f (s .args .h) (s .pre) withdrawTag withdrawSize _ true (at .before .is-call2 .ensures) (at .if2 .taken))
 
 is-call-requires-3 : tie.Need-is-call-requires-3
 is-call-requires-3 c κs = search needs
@@ -129,7 +130,7 @@ returns-3 c =
     let f = s .args .bytes .now in
     let size = route-sized at in
     route-entry f (s .args .h) (s .pre) _ _ _ (omega arith) (no-close (at .before .before .before .before)) (no-withdraw (at .before .before))
-    (told f (s .args .h) (s .pre) 34 7 _ true (at .before .is-call3 .ensures) (at .if3 .taken))
+    (told f (s .args .h) (s .pre) routeTag routeSize _ true (at .before .is-call3 .ensures) (at .if3 .taken))
     (c .before .before .before .u16-at3 .ensures) (c .before .before .u16-at4 .ensures) (c .before .u16-at5 .ensures)
 
 is-call-requires-4 : tie.Need-is-call-requires-4
@@ -140,14 +141,14 @@ returns-4 c =
     let s = start4 (c .before) in
     let f = s .args .bytes .now in
     post-entry f (s .args .h) (s .pre) (no-close (c .before .before .before .before .before .before)) (no-withdraw (c .before .before .before .before)) (no-route (c .before .before))
-    (told f (s .args .h) (s .pre) 35 0 _ true (c .before .is-call4 .ensures) (c .if4 .taken))
+    (told f (s .args .h) (s .pre) postTag 0 _ true (c .before .is-call4 .ensures) (c .if4 .taken))
 
 returns-5 : tie.Need-returns-5
 returns-5 c =
     let s = start4 (c .before) in
     let f = s .args .bytes .now in
     bad-entry f (s .args .h) (s .pre) (no-close (c .before .before .before .before .before .before)) (no-withdraw (c .before .before .before .before)) (no-route (c .before .before))
-    (told f (s .args .h) (s .pre) 35 0 _ false (c .before .is-call4 .ensures) (c .if4 .left))
+    (told f (s .args .h) (s .pre) postTag 0 _ false (c .before .is-call4 .ensures) (c .if4 .left))
 
 pub field-entry-spec : {M : Type 1} → statement M
 field-entry-spec =

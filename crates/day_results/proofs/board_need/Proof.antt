@@ -6,7 +6,7 @@ use borrow.Author.Needs.{needs}
 use Rattle.meaning.specs.Site.{readSite}
 use Rattle.site.specs.Check.{checkOf}
 use Rattle.site.specs.declared.Check.the-variants as Check
-use Rattle.day_results.proofs.Laws.{short, small, takes-all, takes-part, not-read}
+use Rattle.day_results.proofs.Laws.{small, takes-all, takes-part, not-read}
 use Rattle.day_results.proofs.board_need.Statement.{statement}
 use Rattle.day_results.proofs.board_need.Tie as tie
 
@@ -23,27 +23,21 @@ check-site-requires c κs = search needs
 enum-known-l : tie.Need-enum-known-l
 enum-known-l c = search needs
 
-add-size : tie.Need-add-size
-add-size c = let at = c .before .before in omega (arith, short (start at .args .file .now) _ (accepted at))
-
-mul-size : tie.Need-mul-size
-mul-size c = let at = c .before .before .before in omega (arith, small (start at .args .file .now) _ (accepted at))
-
-add-size-2 : tie.Need-add-size-2
-add-size-2 c = let at = c .before .before .before in omega (arith, small (start at .args .file .now) _ (accepted at))
+length-of-requires : tie.Need-length-of-requires
+length-of-requires c κs = let at = c .before in let (few, short) = small (start at .args .file .now) _ (accepted at) in (omega arith, omega arith)
 
 returns : tie.Need-returns
 returns c =
-    let at = c .before .before .before .before in
-    (omega arith, λ z. takes-all (start at .args .file .now) _ (accepted at) (start at .args .room) (c .if1 .taken))
+    let at = c .before .before .before in
+    (omega arith, λ z. takes-all (start at .args .file .now) _ (accepted at) _ (start at .args .room) (c .before .length-of .ensures) (c .if1 .taken))
 
 enum-told : tie.Need-enum-told
 enum-told c = search needs
 
 returns-2 : tie.Need-returns-2
 returns-2 c =
-    let at = c .before .before .before .before in
-    (c .if1 .left, λ z. takes-part (start at .args .file .now) _ (accepted at) (start at .args .room) (c .if1 .left))
+    let at = c .before .before .before in
+    (c .if1 .left, λ z. takes-part (start at .args .file .now) _ (accepted at) _ (start at .args .room) (c .before .length-of .ensures) (c .if1 .left))
 
 returns-3 : tie.Need-returns-3
 returns-3 c =
@@ -56,9 +50,7 @@ board-need-spec =
     (tie.spec
     check-site-requires
     enum-known-l
-    add-size
-    mul-size
-    add-size-2
+    length-of-requires
     returns
     enum-told
     returns-2
