@@ -7,13 +7,14 @@ use mathlib.Core.Path.{_≡_, refl, sym, ap, _∙_}
 use mathlib.Core.List.{List, [], _∷_, _++_}
 use borrow.Author.Tests.{lt-ltb, le-ltb}
 use lib.ListN.{length, getD, length-append}
+use lib.Seq.{paste-zero}
 use Rattle.meaning.specs.Plan.{Step, wait, move}
 use Rattle.meaning.specs.Fields.{fieldBytes}
 use Rattle.meaning.specs.Light.{Light, lightHead, stepField, encode}
 use Rattle.meaning.specs.Calls.{over}
 use Rattle.light.specs.Sizes.{firstStep, stepLength, lightLength}
 use Rattle.light_write.specs.Areas.{placed}
-use Rattle.light_write.proofs.Laws.{placed-none, placed-before, head-last}
+use Rattle.light_write.proofs.AreaLaws.{placed-before, placed-front}
 use Rattle.light_write.specs.Codes.{firstMove, stepOfCode, stepsIn, stepBytes}
 
 -- ---- codes
@@ -54,7 +55,7 @@ pub record Written (path area out : List ℕ) (end i at : ℕ) : Type 0 where
 
 pub written-none : (path area : List ℕ) (end at : ℕ) → at ≡ end → Written path area area end 0 at
 unfolding stepsIn
-written-none path area end at e = record { place = omega arith; same = refl; bytes = sym (placed-none at area) }
+written-none path area end at e = record { place = omega arith; same = refl; bytes = paste-zero area at [] }
 
 pub written-more : (path area out out′ : List ℕ) (end i at : ℕ) → end ≤ length area → stepLength ≤ at → Written path area out end i at
     → length out′ ≡ length out → out′ ≡ placed (at - stepLength) (fieldBytes (stepField (stepOfCode (getD path i 0)))) out
@@ -79,9 +80,12 @@ written-all path area out end i at count done last w =
     let front : at ≡ firstStep = omega (arith, w .place) in
     w .bytes ∙ ap (λ (a : ℕ). placed a (stepBytes (stepsIn path i)) area) front ∙ ap (λ (n : ℕ). placed firstStep (stepBytes (stepsIn path n)) area) done
 
--- the head after the steps
+-- a head written after its steps makes the light
 pub light-written : (l : Light) (count : ℕ) (area out : List ℕ) → length (l .steps) ≡ count → lightLength count ≤ length area
     → out ≡ placed firstStep (stepBytes (l .steps)) area → over (fieldBytes (lightHead l)) out ≡ over (encode l) area
+unfolding encode
 light-written l count area out many room e =
-    ap (over (fieldBytes (lightHead l))) e
-    ∙ head-last l area (omega (arith, length-bytes (l .steps), ap (λ (n : ℕ). stepLength * n) many))
+    let head = fieldBytes (lightHead l) in
+    let steps = stepBytes (l .steps) in
+    let fits : firstStep + length steps ≤ length area = omega (arith, length-bytes (l .steps), ap (λ (n : ℕ). stepLength * n) many) in
+    ap (over head) e ∙ placed-before 0 firstStep head steps area refl fits ∙ placed-front (head ++ steps) area

@@ -1,7 +1,7 @@
 -- `light_write::write_step` meets its contract: the field is copied to the front of what is left of the area.
 -- Assumes nothing.
 use borrow.Author.Needs.{needs}
-use Rattle.light_write.proofs.Laws.{step-copied}
+use Rattle.light_write.proofs.AreaLaws.{step-copied}
 use Rattle.light_write.proofs.write_step.Statement.{statement}
 use Rattle.light_write.proofs.write_step.Tie as tie
 

@@ -2,17 +2,16 @@
 -- Assumes nothing.
 use Prim.Native.Nat.{ℕ, _+_, _-_, _/_, _%_, _≤_}
 use native.Mathlib.Omega.{arith}
-use native.Mathlib.Nat.{add-zero, zero-add}
-use mathlib.Core.Path.{_≡_, refl, sym, ap, _∙_}
-use mathlib.Core.List.{List, [], _∷_, _++_, map, append-assoc, append-nil}
-use lib.ListN.{length, take, drop, length-append, length-drop, take-append-drop}
+use native.Mathlib.Nat.{zero-add}
+use mathlib.Core.Path.{_≡_, sym, ap, _∙_}
+use mathlib.Core.List.{List, _∷_, _++_, append-assoc, append-nil}
+use lib.ListN.{length, take, drop, length-append, length-drop}
 use lib.Seq.{length-take-le, take-append-le, take-length, take-take, drop-at, drop-drop, drop-length}
 use Rattle.meaning.specs.Limits.{stepSize}
 use Rattle.meaning.specs.Basics.{put16}
-use Rattle.meaning.specs.Fields.{fieldBytes, fieldsBytes}
-use Rattle.meaning.specs.Light.{Light, lightHead, stepField, encode}
+use Rattle.meaning.specs.Fields.{fieldBytes}
 use Rattle.meaning.specs.Calls.{over}
-use Rattle.light.specs.Sizes.{firstStep, stepLength}
+use Rattle.light.specs.Sizes.{stepLength}
 use Rattle.light_write.specs.Areas.{tagged, placed}
 
 -- bytes copied to the front of what is left of the area from `at` on
@@ -34,10 +33,6 @@ pub step-copied : (at tag n high low : ℕ) (area last : List ℕ) → high ≡ 
     → last ≡ tag ∷ 0 ∷ stepSize ∷ high ∷ low ∷ drop stepLength (take (length area - at) (drop at area))
     → take at area ++ (last ++ drop (length area - at) (drop at area)) ≡ placed at (fieldBytes (tagged tag (put16 n))) area
 step-copied at tag n high low area last h l e = copied at (fieldBytes (tagged tag (put16 n))) area last (e ∙ rw (h, l))
-
--- nothing placed changes nothing
-pub placed-none : (at : ℕ) (area : List ℕ) → placed at [] area ≡ area
-placed-none at area = rw (add-zero at, append-nil (take at area), take-append-drop at area)
 
 -- bytes placed just before others
 pub placed-before : (at next : ℕ) (new later area : List ℕ) → next ≡ at + length new → next + length later ≤ length area
@@ -62,12 +57,3 @@ placed-before at next new later area e h =
 -- at the front
 pub placed-front : (new area : List ℕ) → placed 0 new area ≡ over new area
 placed-front new area = ap (λ (k : ℕ). new ++ drop k area) (zero-add (length new))
-
--- a head written after its steps makes the light
-pub head-last : (l : Light) (area : List ℕ) → firstStep + length (fieldsBytes (map stepField (l .steps))) ≤ length area
-    → over (fieldBytes (lightHead l)) (placed firstStep (fieldsBytes (map stepField (l .steps))) area) ≡ over (encode l) area
-unfolding encode
-head-last l area h =
-    let head = fieldBytes (lightHead l) in
-    let steps = fieldsBytes (map stepField (l .steps)) in
-    placed-before 0 firstStep head steps area refl h ∙ placed-front (head ++ steps) area
