@@ -20,7 +20,7 @@ use Rattle.meaning.proofs.CallLaws.{named-goal}
 use Rattle.site_layout.specs.Laid.{statePlace, Laid}
 use Rattle.site.specs.declared.Sizes.{Sizes}
 use Rattle.site.proofs.Accepted.{read-laid}
-use Rattle.plan_steps.specs.Ready.{Ready}
+use Rattle.site.specs.Ready.{Ready}
 use Rattle.board.proofs.EditionLaws.{next-mark}
 use Rattle.checks_light.specs.Tail.{editionRefusals}
 

@@ -15,7 +15,7 @@ use Rattle.meaning.specs.Light.{isLight, lightOf}
 use Rattle.meaning.specs.Calls.{PublicCall, listed, audit, post, Lent, onBoard, bytesView, lightValid, lightRefusals, refusals}
 use Rattle.meaning.proofs.AnswersLaws as AnswersLaws
 use Rattle.site.specs.declared.Sizes.{Sizes}
-use Rattle.plan_steps.specs.Ready.{Ready}
+use Rattle.site.specs.Ready.{Ready}
 use Rattle.site.specs.declared.Check.the-variants.{Passed}
 use Rattle.checks.specs.Checks.{checkBy}
 use Rattle.checks.proofs.Passes.{layout-said, board-length, later-passed, edition-below, file-read}

@@ -11,7 +11,7 @@ use Rattle.meaning.specs.Board.{edition, free}
 use Rattle.meaning.specs.Light.{isLight, lightOf}
 use Rattle.meaning.specs.Calls.{lightValid}
 use Rattle.site.specs.declared.Sizes.{Sizes}
-use Rattle.plan_steps.specs.Ready.{Ready}
+use Rattle.site.specs.Ready.{Ready}
 
 -- the site file and the board are ready, the light is valid on the board, and there is a next edition
 pub record Postable (file board : List ℕ) (l : Sizes) (light : List ℕ) : Type 0 where

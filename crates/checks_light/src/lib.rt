@@ -8,7 +8,7 @@ ghost use Rattle.meaning.specs.Answers.{lowest};
 ghost use Rattle.meaning.specs.Site.{siteOf};
 ghost use Rattle.meaning.specs.Light.{isLight, lightOf};
 ghost use Rattle.meaning.specs.Calls.{listed, post, refusals, changed, bytesView, lightRefusals, onBoard};
-ghost use Rattle.plan_steps.specs.Ready.{Ready};
+ghost use Rattle.site.specs.Ready.{Ready};
 ghost use Rattle.checks.specs.Checks.{checkBy};
 ghost use Rattle.checks_light.specs.Tail.{editionRefusals};
 ghost use Rattle.checks_light.specs.Work.{Postable};

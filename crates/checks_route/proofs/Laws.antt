@@ -2,17 +2,16 @@
 -- Assumes nothing.
 use Prim.Native.Nat.{ℕ, _<_, _≤_}
 use mathlib.Core.Path.{_≡_, refl, sym, ap, _∙_}
-use mathlib.Core.Bool.{false, and-true, and-false}
+use mathlib.Core.Bool.{false, and-true}
 use mathlib.Core.List.{List, [], _∷_, _++_}
-use lib.Dec.{leb, ltb}
-use lib.ListN.{length}
-use borrow.Author.Tests.{lt-ltb, le-ltb, le-leb, lt-leb}
+use lib.Dec.{leb}
+use borrow.Author.Tests.{le-leb, lt-leb}
 use Rattle.meaning.specs.Basics.{every, Each, isNone}
 use Rattle.meaning.specs.Answers.{Refusal, _if_, lowest, accepted}
 use Rattle.meaning.specs.Site.{Site, siteOf, siteRefusals, readSite}
 use Rattle.meaning.specs.Plan.{Node}
 use Rattle.meaning.specs.Reach.{findRoute}
-use Rattle.meaning.specs.Calls.{route, opening, listed, bytesView, Room, startNamed, lightRoom, wordsNeeded, routeRefusals, Lent, refusals}
+use Rattle.meaning.specs.Calls.{route, opening, listed, bytesView, Room, lightRoom, wordsNeeded, routeRefusals, Lent, refusals}
 use Rattle.meaning.proofs.AnswersLaws as AnswersLaws
 use Rattle.meaning.proofs.AnswersLaws.{lowest-none, lowest-append, all-rise, lowest-front}
 use Rattle.meaning.proofs.CallLaws.{none-parts, parts-read}
@@ -29,21 +28,6 @@ pub all-parts : (file : List ℕ) (lent : Lent) (tug : ℕ) (a : Node) (goal : �
     → refusals file lent (listed (route tug a goal)) ≡ checksTo14 file lent tug a goal ++ (18 if isNone (findRoute (siteOf file) (bytesView (siteOf file) (lent .board) .free) a goal) ∷ [])
 unfolding refusals siteRefusals routeRefusals routeChecks roomEnough
 all-parts file lent tug a goal = refl
-
--- ---- 10: the states and the tick are named
-
-module _ (site : Site) (a : Node) (goal : ℕ) where
-  pub no-start : length (site .states) ≤ a .state → false ≡ startNamed site a goal
-  unfolding startNamed every
-  no-start h = sym (simp (le-ltb _ _ h))
-
-  pub tick-late : site .horizon < a .tick → false ≡ startNamed site a goal
-  unfolding startNamed every
-  tick-late h = sym (simp (lt-leb _ _ h) (and-false (ltb (a .state) (length (site .states)))))
-
-  pub goal-tells : a .state < length (site .states) → a .tick ≤ site .horizon → ltb goal (length (site .states)) ≡ startNamed site a goal
-  unfolding startNamed every
-  goal-tells hs ht = sym (simp (lt-ltb _ _ hs, le-leb _ _ ht) (and-true _))
 
 -- ---- 14: the areas
 

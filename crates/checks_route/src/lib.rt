@@ -1,6 +1,7 @@
 // The checks of a route call up to 14. What is behind them is the search.
 use site::Check;
 use site::Sizes;
+use site::Trip;
 ghost use mathlib.Core.Path.{_≡_};
 ghost use Prim.Native.Nat.{ℕ, _≤_};
 ghost use mathlib.Core.List.{List};
@@ -8,23 +9,10 @@ ghost use lib.ListN.{length};
 ghost use Rattle.meaning.specs.Limits.{horizonLimit, stateLimit, header};
 ghost use Rattle.meaning.specs.Answers.{lowest};
 ghost use Rattle.meaning.specs.Site.{Site, siteOf};
-ghost use Rattle.meaning.specs.Calls.{startNamed, bytesView, lends, Room};
+ghost use Rattle.meaning.specs.Calls.{bytesView, lends, Room};
 ghost use Rattle.meaning.specs.Plan.{node};
 ghost use Rattle.checks.specs.Checks.{checkBy};
 ghost use Rattle.checks_route.specs.Checks.{Gives, Accepts, roomEnough, routeChecks, checksTo14};
-
-// Are the start state, the start tick and the goal state of the site?
-fn start_named(l: Sizes, start: u16, tick: u16, goal: u16) -> bool
-    ensures { λ r. ⌜ ((site : Site) → Gives l site → r ≡ startNamed site (node start tick) goal) ⌝ }
-{
-    if l.states <= (start as usize) {
-        return false;
-    }
-    if l.horizon < (tick as usize) {
-        return false;
-    }
-    (goal as usize) < l.states
-}
 
 // Is there room for a light with a step at each tick, and a word for each state and tick?
 fn room_enough(l: Sizes, out_len: usize, work_len: usize) -> bool
@@ -55,7 +43,7 @@ fn route_later(
     if !board::is_tug(tug) {
         return 9;
     }
-    if !start_named(l, start, tick, goal) {
+    if !site::trip_named(l, Trip { start, tick, goal }) {
         return 10;
     }
     if site::state_speed(file, goal as usize) != 0 {

@@ -22,8 +22,6 @@ use Rattle.light.specs.declared.Head.{Head}
 use Rattle.light_read.specs.Steps.{stepsFrom}
 use Rattle.light_read.proofs.HeadLaws.{accepted}
 use Rattle.light_read.proofs.StepLaws.{On}
-use Rattle.site.specs.Check.{sizesOf}
-use Rattle.site.specs.declared.Sizes.{Sizes}
 use Rattle.plan_steps.specs.declared.Node.{Node}
 use Rattle.plan_steps.specs.Nodes.{nodeOf, Here}
 use Rattle.plan_check.specs.Walks.{startIn}
@@ -37,10 +35,6 @@ last-of-two w x p = rw p (and-true x)
 last-of-three : (w x y : Bool) → w ≡ true → x ≡ true → every (w ∷ x ∷ y ∷ []) ≡ y
 unfolding every
 last-of-three w x y p q = rw (p, q) (and-true y)
-
-three : (w x y : Bool) → w ≡ true → x ≡ true → y ≡ true → every (w ∷ x ∷ y ∷ []) ≡ true
-unfolding every
-three w x y p q r = rw (p, q, r)
 
 -- two tests, and then one more
 two-then : (w x y b : Bool) → every (w ∷ x ∷ []) ≡ b → every (w ∷ x ∷ y ∷ []) ≡ b && y
@@ -119,36 +113,15 @@ module _ (s : Site) (light : List ℕ) (at : ℕ) where
 
 -- ---- the states and ticks that a head names
 
--- by the node a, which the code has, and the head's
-module _ (s : Site) (l : Sizes) (same : l ≡ sizesOf s) (h : Head) (a : Plan.Node) (begins : a ≡ startIn h) where
-  abbrev named : Plan.Node → Bool
-  named b = every (startNamed s b (h .goal) ∷ leb (h .arrival) (s .horizon) ∷ [])
+module _ (s : Site) (h : Head) where
+  abbrev named : Bool
+  named = every (startNamed s (startIn h) (h .goal) ∷ leb (h .arrival) (s .horizon) ∷ [])
 
-  count : l .states ≡ length (s .states)
-  count = ap (λ (x : Sizes). x .states) same
+  pub head-off : startNamed s (startIn h) (h .goal) ≡ false → named ≡ false
+  head-off p = every-fails _ 0 p
 
-  end : l .horizon ≡ s .horizon
-  end = ap (λ (x : Sizes). x .horizon) same
-
-  pub head-start : l .states ≤ a .state → named (startIn h) ≡ false
-  unfolding startNamed
-  head-start p = sym (ap named begins) ∙ every-fails _ 0 (every-fails _ 0 (le-ltb (a .state) (length (s .states)) (omega (arith, count))))
-
-  pub head-goal : l .states ≤ h .goal → named (startIn h) ≡ false
-  unfolding startNamed
-  head-goal p = every-fails _ 0 (every-fails _ 2 (le-ltb (h .goal) (length (s .states)) (omega (arith, count))))
-
-  pub head-late : leb (a .tick) (l .horizon) ≡ false → named (startIn h) ≡ false
-  unfolding startNamed
-  head-late p = sym (ap named begins) ∙ every-fails _ 0 (every-fails _ 1 (ap (leb (a .tick)) (sym end) ∙ p))
-
-  pub head-on : a .state < l .states → h .goal < l .states → leb (a .tick) (l .horizon) ≡ true → named (startIn h) ≡ leb (h .arrival) (l .horizon)
-  unfolding startNamed
-  head-on p q t =
-      sym (ap named begins)
-      ∙ last-of-two _ _ (three _ _ _ (lt-ltb (a .state) (length (s .states)) (omega (arith, count))) (ap (leb (a .tick)) (sym end) ∙ t)
-      (lt-ltb (h .goal) (length (s .states)) (omega (arith, count))))
-      ∙ ap (leb (h .arrival)) (sym end)
+  pub head-on : startNamed s (startIn h) (h .goal) ≡ true → (n : ℕ) → n ≡ s .horizon → named ≡ leb (h .arrival) n
+  head-on p n e = last-of-two _ _ p ∙ ap (leb (h .arrival)) (sym e)
 
 -- the whole light
 pub light-names : (s : Site) (light : List ℕ) (h : Head) (b : Bool) → isLight light ≡ true → h ≡ headOf (lightOf light)

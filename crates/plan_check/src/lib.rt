@@ -3,6 +3,7 @@ use light::Head;
 use light_read::Step;
 use plan_steps::Node;
 use site::Sizes;
+use site::Trip;
 use time::Span;
 use time::Tick;
 ghost use mathlib.Core.Path.{_≡_};
@@ -20,7 +21,7 @@ ghost use Rattle.meaning.specs.Calls.{isAt, lightValid, startNamed, stepNamed, 
 ghost use Rattle.light_read.specs.Steps.{laidFrom, stepsFrom};
 ghost use Rattle.site.specs.Check.{sizesOf};
 ghost use Rattle.site.specs.Motions.{Index};
-ghost use Rattle.plan_steps.specs.Ready.{Ready};
+ghost use Rattle.site.specs.Ready.{Ready};
 ghost use Rattle.plan_steps.specs.Nodes.{nodeOf, Here};
 ghost use Rattle.plan_check.specs.Walks.{walkEndCase, startIn};
 
@@ -158,14 +159,12 @@ fn motions_named(light: &[u8], first: usize, motions: usize) -> bool
 fn head_named(sizes: Sizes, head: Head) -> bool
     ensures { λ r. ⌜ ((s : Site) → sizes ≡ sizesOf s → r ≡ every (startNamed s (startIn head) (head .goal) ∷ leb (head .arrival) (s .horizon) ∷ [])) ⌝ }
 {
-    let start = start_of(head);
-    if sizes.states <= start.state {
-        return false;
-    }
-    if sizes.states <= head.goal as usize {
-        return false;
-    }
-    if time::in_time(start.tick, sizes.horizon) {
+    let trip = Trip {
+        start: head.start,
+        tick: head.tick,
+        goal: head.goal,
+    };
+    if site::trip_named(sizes, trip) {
         time::in_time(Tick(head.arrival as u32), sizes.horizon)
     } else {
         false

@@ -26,7 +26,7 @@ use Rattle.light_read.proofs.HeadLaws.{accepted}
 use Rattle.light_read.proofs.StepLaws.{On}
 use Rattle.site.specs.declared.Sizes.{Sizes}
 use Rattle.plan_steps.specs.declared.Node.{Node}
-use Rattle.plan_steps.specs.Ready.{Ready}
+use Rattle.site.specs.Ready.{Ready}
 use Rattle.plan_steps.specs.Nodes.{nodeOf, Here}
 use Rattle.plan_steps.proofs.NodeLaws.{Next}
 use Rattle.plan_check.specs.Walks.{startIn}

@@ -18,7 +18,8 @@ ghost use Rattle.meaning.specs.Calls.{lightValid, lightPairs};
 ghost use Rattle.site_sweeps.specs.Places.{sweepsAt};
 ghost use Rattle.light_read.specs.Steps.{laidFrom, stepsFrom};
 ghost use Rattle.site.specs.Motions.{Index};
-ghost use Rattle.plan_steps.specs.Ready.{Ready, Sweeps, Swept};
+ghost use Rattle.site.specs.Ready.{Ready};
+ghost use Rattle.plan_steps.specs.Sweeps.{Sweeps, Swept};
 ghost use Rattle.plan_steps.specs.Nodes.{nodeOf, Here};
 ghost use Rattle.plan_mark.specs.InTime.{InTime};
 

@@ -26,7 +26,8 @@ use Rattle.site.specs.Motions.{MotionIs}
 use Rattle.site.proofs.Accepted.{read-laid}
 use Rattle.board.specs.Runs.{Row}
 use Rattle.board.proofs.TickLaws.{row-on}
-use Rattle.plan_steps.specs.Ready.{Ready, Sweeps, Swept}
+use Rattle.site.specs.Ready.{Ready}
+use Rattle.plan_steps.specs.Sweeps.{Sweeps, Swept}
 
 -- ---- a file that is ready
 

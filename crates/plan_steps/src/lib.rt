@@ -12,7 +12,8 @@ ghost use Rattle.meaning.specs.Board.{free};
 ghost use Rattle.meaning.specs.Plan.{freeFromTo, sweepsFree, wait, move, allowed};
 ghost use Rattle.site_sweeps.specs.Places.{sweepsAt};
 ghost use Rattle.site.specs.Motions.{MotionIs};
-ghost use Rattle.plan_steps.specs.Ready.{Ready, Sweeps, Swept};
+ghost use Rattle.site.specs.Ready.{Ready};
+ghost use Rattle.plan_steps.specs.Sweeps.{Sweeps, Swept};
 ghost use Rattle.plan_steps.specs.Nodes.{nodeOf, Here};
 
 // A state and a tick.

@@ -1,2 +1,3 @@
 pub mod Motions
 pub mod Check
+pub mod Ready

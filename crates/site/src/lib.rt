@@ -7,11 +7,13 @@ ghost use Prim.Native.Nat.{_<_, _≤_};
 ghost use lib.ListN.{length};
 ghost use Rattle.meaning.specs.Basics.{all};
 ghost use Rattle.meaning.specs.Fields.{complete, listed};
-ghost use Rattle.meaning.specs.Site.{siteOf, stateAt, motionAt, motionOf, isMotion, cellGood, endsGood, motionGood, readSite};
+ghost use Rattle.meaning.specs.Plan.{node};
+ghost use Rattle.meaning.specs.Calls.{startNamed};
+ghost use Rattle.meaning.specs.Site.{Site, siteOf, stateAt, motionAt, motionOf, isMotion, cellGood, endsGood, motionGood, readSite};
 ghost use Rattle.fields.specs.Places.{fieldsAt, fieldAt};
 ghost use Rattle.site_layout.specs.Laid.{statePlace, HeadIs, Laid, StateValue};
 ghost use Rattle.site.specs.Motions.{MotionIs, Motions, Index};
-ghost use Rattle.site.specs.Check.{checkOf};
+ghost use Rattle.site.specs.Check.{sizesOf, checkOf};
 
 // Where the state `i` starts: the head has 8 bytes, and each state has 5.
 fn state_place(i: usize) -> usize
@@ -147,6 +149,26 @@ pub struct Sizes {
     pub states: usize,
     pub motions: usize,
     pub start: usize,
+}
+
+// What a route is asked for: from a state at a tick to a goal state.
+pub struct Trip {
+    pub start: u16,
+    pub tick: u16,
+    pub goal: u16,
+}
+
+// The start state, the start tick and the goal state are the site's.
+pub fn trip_named(sizes: Sizes, trip: Trip) -> bool
+    ensures { λ r. ⌜ ((site : Site) → sizes ≡ sizesOf site → r ≡ startNamed site (node (trip .start) (trip .tick)) (trip .goal)) ⌝ }
+{
+    if sizes.states <= trip.start as usize {
+        return false;
+    }
+    if sizes.horizon < trip.tick as usize {
+        return false;
+    }
+    (trip.goal as usize) < sizes.states
 }
 
 // What checks answer: all passed, with the sizes of the site, or the lowest number that applies.

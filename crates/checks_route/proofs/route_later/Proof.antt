@@ -40,7 +40,7 @@ module _ (c : tie.Else1) where
 
 module _ (c : tie.Else2) where
   named : startNamed (site (c .before .before)) (node (start (c .before .before) .args .start) (start (c .before .before) .args .tick)) (start (c .before .before) .args .goal) ≡ true
-  named = sym (c .before .start-named .ensures _ (says (c .before .before))) ∙ not-false _ (c .if2 .left)
+  named = sym (c .before .trip-named .ensures _ (start (c .before .before) .pre .0 .said)) ∙ not-false _ (c .if2 .left)
 
   behind-10 : not (startNamed (site (c .before .before)) (node (start (c .before .before) .args .start) (start (c .before .before) .args .tick)) (start (c .before .before) .args .goal)) ≡ false
   behind-10 = ap not named
@@ -60,14 +60,14 @@ returns : tie.Need-returns
 unfolding routeChecks bytesView
 returns c = λ areas out words. hit 9 _ _ (told (c .before .is-tug .ensures) (c .if1 .taken))
 
-start-named-requires : tie.Need-start-named-requires
-start-named-requires c κs = search needs
+trip-named-requires : tie.Need-trip-named-requires
+trip-named-requires c κs = search needs
 
 returns-2 : tie.Need-returns-2
 unfolding routeChecks bytesView
 returns-2 c = λ areas out words.
     let at-9 = c .before .before in
-    miss _ _ _ _ (behind-9 at-9) (hit 10 _ _ (told (c .before .start-named .ensures _ (says at-9)) (c .if2 .taken)))
+    miss _ _ _ _ (behind-9 at-9) (hit 10 _ _ (told (c .before .trip-named .ensures _ (start at-9 .pre .0 .said)) (c .if2 .taken)))
 
 state-speed-requires : tie.Need-state-speed-requires
 state-speed-requires c κs = (read-laid _ _ (start (c .before .before) .pre .0 .read), named-goal _ _ _ (named c))
@@ -129,7 +129,7 @@ route-later-spec =
     (tie.spec
     is-tug-requires
     returns
-    start-named-requires
+    trip-named-requires
     returns-2
     state-speed-requires
     returns-3
