@@ -28,16 +28,8 @@ fn mark_sweep(file: &[u8], board: &mut [u8], sizes: Sizes, w: Sweep, t: Tick, tu
     requires { ⌜ Ready (now file) (length (now board)) sizes × Swept (now file) w (t .0) ⌝ }
     ensures { λ _. ⌜ now (board .exit) ≡ mark (siteOf (now (file .entry))) tug (runTo (w .cell) (t .0 + w .first) (t .0 + w .last)) (now (board .entry)) ⌝ }
 {
-    let first = time::after(t, Span(w.first as u32));
-    let last = time::after(t, Span(w.last as u32));
-    board::mark_run(
-        board,
-        sizes.horizon,
-        w.cell,
-        time::number(first),
-        time::number(last),
-        tug,
-    );
+    let ticks = plan_steps::swept_ticks(w, t);
+    board::mark_run(board, sizes.horizon, w.cell, ticks.first, ticks.last, tug);
 }
 
 // Marks each swept cell of the motion while the motion uses it, where it starts at `t`.

@@ -22,20 +22,30 @@ pub struct Node {
     pub tick: Tick,
 }
 
+// Ticks of a cell, from the first to the last, both included.
+pub struct Ticks {
+    pub first: usize,
+    pub last: usize,
+}
+
+// The ticks at which a motion that starts at `t` uses the sweep's cell.
+pub fn swept_ticks(w: Sweep, t: Tick) -> Ticks
+    requires { ⌜ (t .0 + w .first < 4294967296) × (t .0 + w .last < 4294967296) ⌝ }
+    ensures { λ r. ⌜ (r .first ≡ t .0 + w .first) × (r .last ≡ t .0 + w .last) ⌝ }
+{
+    Ticks {
+        first: time::number(time::after(t, Span(w.first as u32))),
+        last: time::number(time::after(t, Span(w.last as u32))),
+    }
+}
+
 // The sweep's cell is free while a motion that starts at `t` uses it.
 fn sweep_free(file: &[u8], board: &[u8], sizes: Sizes, w: Sweep, t: Tick) -> bool
     requires { ⌜ Ready (now file) (length (now board)) sizes × Swept (now file) w (t .0) ⌝ }
     ensures { λ r. ⌜ r ≡ freeFromTo (free (siteOf (now (file .entry))) (now (board .entry))) (w .cell) (t .0 + w .first) (t .0 + w .last) ⌝ }
 {
-    let first = time::after(t, Span(w.first as u32));
-    let last = time::after(t, Span(w.last as u32));
-    board::run_free(
-        board,
-        sizes.horizon,
-        w.cell,
-        time::number(first),
-        time::number(last),
-    )
+    let ticks = swept_ticks(w, t);
+    board::run_free(board, sizes.horizon, w.cell, ticks.first, ticks.last)
 }
 
 // Each swept cell of the motion is free while the motion uses it, where it starts at `t`.
