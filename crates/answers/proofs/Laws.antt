@@ -1,4 +1,4 @@
--- Laws of the answers: what is meant of a call whose checks passed, and of one that they refuse.
+-- Laws of the answers: what is meant of a call that a number refuses, and of one that none refuses.
 -- Assumes nothing.
 use Prim.Native.Nat.{ℕ, zero, suc, _≤_}
 use native.Mathlib.Omega.{arith}
@@ -10,12 +10,6 @@ use Rattle.meaning.specs.Site.{Site, siteOf}
 use Rattle.meaning.specs.Calls.{PublicCall, listed, Call, Lent, refusals, changed, Done, acceptedDone, refusedDone, doneBy, meant}
 use Rattle.meaning.proofs.BasicsLaws.{decide}
 use Rattle.meaning.proofs.CallLaws.{meant-number, meant-by, done-board}
-use Rattle.site.specs.Check.{sizesOf}
-use Rattle.site.specs.declared.Sizes.{Sizes}
-use Rattle.site.specs.declared.Check.the-variants.{Passed, Refused}
-use Rattle.checks.specs.Checks.{checkBy}
-use Rattle.checks.proofs.Laws.{refused-number}
-use Rattle.checks.proofs.Passes.{none-applies}
 use Rattle.answers.specs.declared.Answer.{Answer}
 use Rattle.answers.specs.declared.Answer.the-variants as A
 use Rattle.answers.specs.Answers.{numberOf, answerOf}
@@ -34,21 +28,22 @@ by-refused : (site : Site) (l : Lent) (q : PublicCall) (n : ℕ) → 1 ≤ n →
 by-refused site l q zero h = absurd (omega arith)
 by-refused site l q (suc n) h = refl
 
--- ---- from the answer of the checks
+-- ---- by the lowest number that applies
+
+-- it is n, a refusal's
+abbrev pub RefusedBy : List ℕ → Lent → PublicCall → ℕ → Type 0
+RefusedBy file lent q n = (lowest (refusals file lent q) ≡ n) × (1 ≤ n)
 
 module _ (file : List ℕ) (lent : Lent) (q : PublicCall) where
-  module _ (n : ℕ) (e : Refused n ≡ checkBy (siteOf file) (lowest (refusals file lent q))) where
-    pub refused-told : meant file lent q .number ≡ n
-    refused-told = meant-number file lent q ∙ refused-number (sizesOf (siteOf file)) n _ e .0
-
-    pub refused-not-zero : 1 ≤ n
-    refused-not-zero = refused-number (sizesOf (siteOf file)) n _ e .1
+  module _ (n : ℕ) (r : RefusedBy file lent q n) where
+    pub refused-number : meant file lent q .number ≡ n
+    refused-number = meant-number file lent q ∙ r .0
 
     refused-meant : meant file lent q ≡ refusedDone (siteOf file) lent n
-    refused-meant = meant-by file lent q n (refused-number (sizesOf (siteOf file)) n _ e .0) ∙ by-refused (siteOf file) lent q n refused-not-zero
+    refused-meant = meant-by file lent q n (r .0) ∙ by-refused (siteOf file) lent q n (r .1)
 
     pub refused-answer : A.Refused n ≡ answerOf (meant file lent q .number)
-    refused-answer = answer-refused n refused-not-zero ∙ sym (ap answerOf refused-told)
+    refused-answer = answer-refused n (r .1) ∙ sym (ap answerOf refused-number)
 
     pub refused-board : lent .board ≡ meant file lent q .lent .board
     refused-board = refused-keeps (siteOf file) lent n .0 ∙ sym (ap (λ (d : Done). d .lent .board) refused-meant)
@@ -56,18 +51,18 @@ module _ (file : List ℕ) (lent : Lent) (q : PublicCall) where
     pub refused-out : lent .out ≡ meant file lent q .lent .out
     refused-out = refused-keeps (siteOf file) lent n .1 ∙ sym (ap (λ (d : Done). d .lent .out) refused-meant)
 
-  module _ (l : Sizes) (e : Passed l ≡ checkBy (siteOf file) (lowest (refusals file lent q))) where
+  module _ (none : lowest (refusals file lent q) ≡ 0) where
     pub accepted-meant : acceptedDone (siteOf file) lent q ≡ meant file lent q
-    accepted-meant = sym (meant-by file lent q 0 (none-applies file lent q l e))
+    accepted-meant = sym (meant-by file lent q 0 none)
 
     pub accepted-answer : A.Accepted ≡ answerOf (meant file lent q .number)
-    accepted-answer = sym (ap answerOf (meant-number file lent q ∙ none-applies file lent q l e))
+    accepted-answer = sym (ap answerOf (meant-number file lent q ∙ none))
 
 -- the board that a call of a list leaves
-module _ (file : List ℕ) (lent : Lent) (c : Call) (l : Sizes) (e : Passed l ≡ checkBy (siteOf file) (lowest (refusals file lent (listed c)))) where
+module _ (file : List ℕ) (lent : Lent) (c : Call) (none : lowest (refusals file lent (listed c)) ≡ 0) where
   pub accepted-board : (end : List ℕ) → end ≡ changed (siteOf file) (lent .board) c → end ≡ meant file lent (listed c) .lent .board
   accepted-board end same =
-      same ∙ sym (done-board (siteOf file) lent c 0) ∙ ap (λ (d : Done). d .lent .board) (accepted-meant file lent (listed c) l e)
+      same ∙ sym (done-board (siteOf file) lent c 0) ∙ ap (λ (d : Done). d .lent .board) (accepted-meant file lent (listed c) none)
 
 -- ---- the number that an answer says
 

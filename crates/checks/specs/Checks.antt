@@ -1,8 +1,10 @@
--- The answer of a call's checks: what the site says, or the number of the refusal.
+-- The answer of a call's checks: what the site says, or the number of the refusal; and a list of refusals in two parts.
 -- Assumes nothing.
-use Prim.Native.Nat.{ℕ, zero, suc, _+_, _*_, _≤_}
-use mathlib.Core.Path.{_≡_}
-use Rattle.meaning.specs.Limits.{horizonLimit, header}
+use Prim.Native.Nat.{ℕ, zero, suc}
+use mathlib.Core.Bool.{cond}
+use mathlib.Core.List.{List, [], _∷_}
+use lib.Dec.{leb, ltb}
+use Rattle.meaning.specs.Answers.{Refusal}
 use Rattle.meaning.specs.Site.{Site}
 use Rattle.site.specs.Check.{sizesOf}
 use Rattle.site.specs.declared.Sizes.{Sizes}
@@ -19,14 +21,14 @@ byNumber l (suc n) = Refused (suc n)
 abbrev pub checkBy : Site → ℕ → Check
 checkBy site n = byNumber (sizesOf site) n
 
--- ---- what the later checks rely on
+-- ---- a list whose numbers rise, in two parts
 
--- the site has the cells and the horizon that l says
-pub record Says (l : Sizes) (site : Site) : Type 0 where
-  pub cells : site .cells ≡ l .cells
-  pub horizon : site .horizon ≡ l .horizon
+-- from the number n on
+abbrev pub fromNumber : ℕ → List Refusal → List Refusal
+fromNumber n [] = []
+fromNumber n (r ∷ rs) = cond (ltb (r .number) n) (fromNumber n rs) (r ∷ rs)
 
--- a board of that many bytes has the length that l says
-pub record Sized (l : Sizes) (size : ℕ) : Type 0 where
-  pub short : l .horizon ≤ horizonLimit
-  pub whole : size ≡ header + l .cells * (l .horizon + 1)
+-- up to the number n
+abbrev pub upToNumber : ℕ → List Refusal → List Refusal
+upToNumber n [] = []
+upToNumber n (r ∷ rs) = cond (leb (r .number) n) (r ∷ upToNumber n rs) []

@@ -1,2 +1,1 @@
-pub mod Tail
 pub mod Work

@@ -1,5 +1,4 @@
-// The checks of post and audit, which look only, and the work of a post that passed them all.
-use site::Check;
+// The later checks of post and audit, and the work of a post that passed them all.
 use site::Sizes;
 ghost use mathlib.Core.Path.{_≡_};
 ghost use mathlib.Core.Bool.{true};
@@ -7,21 +6,18 @@ ghost use lib.ListN.{length};
 ghost use Rattle.meaning.specs.Answers.{lowest};
 ghost use Rattle.meaning.specs.Site.{siteOf};
 ghost use Rattle.meaning.specs.Light.{isLight, lightOf};
-ghost use Rattle.meaning.specs.Calls.{listed, post, refusals, changed, bytesView, lightRefusals, onBoard};
+ghost use Rattle.meaning.specs.Calls.{post, changed, bytesView, lightRefusals};
 ghost use Rattle.site.specs.Ready.{Ready};
-ghost use Rattle.checks.specs.Checks.{checkBy};
-ghost use Rattle.checks_light.specs.Tail.{editionRefusals};
+ghost use Rattle.checks.specs.Checks.{fromNumber};
 ghost use Rattle.checks_light.specs.Work.{Postable};
 
-const LAST_EDITION: u32 = 4294967295;
-
-// The lowest number from 15 on, where `wanted` is the light's edition.
-fn edition_later(file: &[u8], board: &[u8], l: Sizes, light: &[u8], wanted: u32) -> u8
+// The lowest number from 15 on, 0 if none applies, where `wanted` is the light's edition.
+fn edition_refusal(file: &[u8], board: &[u8], l: Sizes, light: &[u8], wanted: u32) -> u8
     requires { ⌜ Ready (now file) (length (now board)) l × (isLight (now light) ≡ true) × (wanted ≡ lightOf (now light) .edition) ⌝ }
-    ensures { λ r. ⌜ r ≡ lowest (editionRefusals (siteOf (now (file .entry))) (bytesView (siteOf (now (file .entry))) (now (board .entry))) (now (light .entry))) ⌝ }
+    ensures { λ r. ⌜ r ≡ lowest (fromNumber 15 (lightRefusals (siteOf (now (file .entry))) (bytesView (siteOf (now (file .entry))) (now (board .entry))) (now (light .entry)))) ⌝ }
 {
+    let last = checks::at_last_edition(board);
     let edition = board::read_edition(board);
-    let last = edition == LAST_EDITION;
     let other = wanted != edition;
     if last {
         return 15;
@@ -36,8 +32,8 @@ fn edition_later(file: &[u8], board: &[u8], l: Sizes, light: &[u8], wanted: u32)
     0
 }
 
-// The lowest number from 8 on.
-fn light_later(file: &[u8], board: &[u8], l: Sizes, light: &[u8]) -> u8
+// The lowest number of post, which is that of audit, from 8 on; 0 if none applies.
+pub fn light_refusal(file: &[u8], board: &[u8], l: Sizes, light: &[u8]) -> u8
     requires { ⌜ Ready (now file) (length (now board)) l ⌝ }
     ensures { λ r. ⌜ r ≡ lowest (lightRefusals (siteOf (now (file .entry))) (bytesView (siteOf (now (file .entry))) (now (board .entry))) (now (light .entry))) ⌝ }
 {
@@ -57,17 +53,7 @@ fn light_later(file: &[u8], board: &[u8], l: Sizes, light: &[u8]) -> u8
     if board::holder_stands(board, head.tug) {
         return 12;
     }
-    edition_later(file, board, l, light, head.edition)
-}
-
-// The checks of post, which are those of audit.
-pub fn check_light(file: &[u8], board: &[u8], light: &[u8]) -> Check
-    ensures { λ r. ⌜ r ≡ checkBy (siteOf (now (file .entry))) (lowest (refusals (now (file .entry)) (onBoard (now (board .entry))) (listed (post (now (light .entry)))))) ⌝ }
-{
-    match checks::check_board(file, board) {
-        Check::Passed(l) => checks::by_number(l, light_later(file, board, l, light)),
-        Check::Refused(n) => Check::Refused(n),
-    }
+    edition_refusal(file, board, l, light, head.edition)
 }
 
 // Writes the light's tug over the pairs that its plan holds, and adds 1 to the edition.

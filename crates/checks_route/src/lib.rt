@@ -1,32 +1,39 @@
-// The checks of a route call up to 14. What is behind them is the search.
-use site::Check;
+// The later checks of a route call up to 14. What is behind them is the search.
 use site::Sizes;
 use site::Trip;
 ghost use mathlib.Core.Path.{_≡_};
-ghost use Prim.Native.Nat.{ℕ, _≤_};
-ghost use mathlib.Core.List.{List};
+ghost use Prim.Native.Nat.{_≤_};
 ghost use lib.ListN.{length};
-ghost use Rattle.meaning.specs.Limits.{horizonLimit, stateLimit, header};
+ghost use Rattle.meaning.specs.Limits.{horizonLimit, stateLimit};
 ghost use Rattle.meaning.specs.Answers.{lowest};
 ghost use Rattle.meaning.specs.Site.{Site, siteOf};
-ghost use Rattle.meaning.specs.Calls.{bytesView, lends, Room};
+ghost use Rattle.meaning.specs.Calls.{wordsNeeded, bytesView, Room};
 ghost use Rattle.meaning.specs.Plan.{node};
-ghost use Rattle.checks.specs.Checks.{checkBy};
-ghost use Rattle.checks_route.specs.Checks.{Gives, Accepts, roomEnough, routeChecks, checksTo14};
+ghost use Rattle.site.specs.Check.{sizesOf};
+ghost use Rattle.site.specs.Ready.{Ready};
+ghost use Rattle.checks_route.specs.Checks.{roomEnough, routeChecks};
 
-// Is there room for a light with a step at each tick, and a word for each state and tick?
+// The words that a search needs, one for each state and tick.
+pub fn words_needed(l: Sizes) -> usize
+    requires { ⌜ (l .states ≤ stateLimit) × (l .horizon ≤ horizonLimit) ⌝ }
+    ensures { λ r. ⌜ ((site : Site) → l ≡ sizesOf site → r ≡ wordsNeeded site) ⌝ }
+{
+    l.states * (l.horizon + 1)
+}
+
+// Is there room for a light with a step at each tick, and for the words of the search?
 fn room_enough(l: Sizes, out_len: usize, work_len: usize) -> bool
     requires { ⌜ (l .states ≤ stateLimit) × (l .horizon ≤ horizonLimit) ⌝ }
-    ensures { λ r. ⌜ ((site : Site) (areas : Room) → Gives l site → areas .out ≡ «out_len» → areas .words ≡ «work_len» → r ≡ roomEnough site areas) ⌝ }
+    ensures { λ r. ⌜ ((site : Site) (areas : Room) → l ≡ sizesOf site → areas .out ≡ «out_len» → areas .words ≡ «work_len» → r ≡ roomEnough site areas) ⌝ }
 {
     if out_len < light::length_of(l.horizon) {
         return false;
     }
-    l.states * (l.horizon + 1) <= work_len
+    words_needed(l) <= work_len
 }
 
-// The lowest number of route from 9 to 14.
-fn route_later(
+// The lowest number of route from 9 to 14, 0 if none applies.
+pub fn route_refusal(
     file: &[u8],
     board: &[u8],
     l: Sizes,
@@ -37,7 +44,7 @@ fn route_later(
     out_len: usize,
     work_len: usize,
 ) -> u8
-    requires { ⌜ Accepts (now file) l × (header ≤ length (now board)) ⌝ }
+    requires { ⌜ Ready (now file) (length (now board)) l ⌝ }
     ensures { λ r. ⌜ ((areas : Room) → areas .out ≡ «out_len» → areas .words ≡ «work_len» → r ≡ lowest (routeChecks (siteOf (now (file .entry))) (bytesView (siteOf (now (file .entry))) (now (board .entry))) areas tug (node start tick) goal)) ⌝ }
 {
     if !board::is_tug(tug) {
@@ -56,26 +63,4 @@ fn route_later(
         return 14;
     }
     0
-}
-
-// The checks of route up to 14, where the areas have these lengths.
-pub fn check_route(
-    file: &[u8],
-    board: &[u8],
-    tug: u8,
-    start: u16,
-    tick: u16,
-    goal: u16,
-    out_len: usize,
-    work_len: usize,
-) -> Check
-    ensures { λ r. ⌜ ((out words : List ℕ) → length out ≡ «out_len» → length words ≡ «work_len» → r ≡ checkBy (siteOf (now (file .entry))) (lowest (checksTo14 (now (file .entry)) (lends (now (board .entry)) out words) tug (node start tick) goal))) ⌝ }
-{
-    match checks::check_board(file, board) {
-        Check::Passed(l) => checks::by_number(
-            l,
-            route_later(file, board, l, tug, start, tick, goal, out_len, work_len),
-        ),
-        Check::Refused(n) => Check::Refused(n),
-    }
 }

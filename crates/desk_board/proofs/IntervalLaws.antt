@@ -3,22 +3,20 @@
 use Prim.Native.Nat.{ℕ, zero, suc, _≤_, _<_}
 use native.Mathlib.Omega.{arith}
 use mathlib.Core.Path.{_≡_, refl, sym, ap, _∙_}
+use mathlib.Core.Bool.{Bool}
 use mathlib.Core.List.{List, []}
 use lib.ListN.{length}
+use Rattle.meaning.specs.Limits.{horizonLimit}
 use Rattle.meaning.specs.Answers.{lowest}
 use Rattle.meaning.specs.Site.{Site, siteOf}
 use Rattle.meaning.specs.Board.{free}
 use Rattle.meaning.specs.Intervals.{Interval, intervals, numbersOf}
 use Rattle.meaning.specs.Calls.{interval, Lent, lends, over, refusals, Done, acceptedDone, refusedDone, doneBy, meant}
 use Rattle.meaning.proofs.CallLaws.{meant-number}
-use Rattle.site.specs.declared.Sizes.{Sizes}
 use Rattle.board_intervals.proofs.Laws.{fits}
-use Rattle.site.specs.declared.Check.the-variants.{Passed, Refused}
-use Rattle.checks.specs.Checks.{checkBy}
-use Rattle.checks.proofs.Passes.{site-says, interval-row}
 use Rattle.answers.specs.declared.Counted.the-variants as C
 use Rattle.answers.specs.Answers.{countedNumber, countedValues, countedOf, countedBy}
-use Rattle.answers.proofs.Laws.{refused-told, refused-not-zero, accepted-meant}
+use Rattle.answers.proofs.Laws.{RefusedBy, refused-number, accepted-meant}
 
 -- ---- the number and the values that the answer says are those that are meant
 
@@ -43,33 +41,29 @@ counted-refused : (n : ℕ) (values : List ℕ) → 1 ≤ n → C.Refused n ≡ 
 counted-refused zero values h = absurd (omega arith)
 counted-refused (suc n) values h = refl
 
-pub refused-counted : (file : List ℕ) (lent : Lent) (cell n : ℕ) → Refused n ≡ checkBy (siteOf file) (lowest (refusals file lent (interval cell)))
-    → C.Refused n ≡ countedOf (meant file lent (interval cell))
-refused-counted file lent cell n e =
+pub refused-counted : (file : List ℕ) (lent : Lent) (cell n : ℕ) → RefusedBy file lent (interval cell) n → C.Refused n ≡ countedOf (meant file lent (interval cell))
+refused-counted file lent cell n by =
     let values : List ℕ = meant file lent (interval cell) .values in
-    counted-refused n values (refused-not-zero file lent (interval cell) n e)
-    ∙ sym (ap (λ (k : ℕ). countedBy k values) (refused-told file lent (interval cell) n e))
+    counted-refused n values (by .1) ∙ sym (ap (λ (k : ℕ). countedBy k values) (refused-number file lent (interval cell) n by))
 
 -- ---- accepted
 
-module _ (file board out : List ℕ) (cell : ℕ) (l : Sizes) (e : Passed l ≡ checkBy (siteOf file) (lowest (refusals file (lends board out []) (interval cell)))) where
+module _ (file board out : List ℕ) (cell : ℕ) (passed : lowest (refusals file (lends board out []) (interval cell)) ≡ 0) (horizon : ℕ) (same-horizon : siteOf file .horizon ≡ horizon) where
   -- the intervals, as the work finds them
-  found : intervals (free (siteOf file) board cell) (l .horizon) ≡ intervals (free (siteOf file) board cell) (siteOf file .horizon)
-  found = ap (intervals (free (siteOf file) board cell)) (sym (site-says file (lends board out []) (interval cell) l e .horizon))
+  found : intervals (free (siteOf file) board cell) horizon ≡ intervals (free (siteOf file) board cell) (siteOf file .horizon)
+  found = ap (intervals (free (siteOf file) board cell)) (sym same-horizon)
 
-  pub interval-counted : (n : ℕ) → n ≡ length (intervals (free (siteOf file) board cell) (l .horizon)) → C.Counted n ≡ countedOf (meant file (lends board out []) (interval cell))
+  pub interval-counted : (n : ℕ) → n ≡ length (intervals (free (siteOf file) board cell) horizon) → C.Counted n ≡ countedOf (meant file (lends board out []) (interval cell))
   unfolding acceptedDone
-  interval-counted n same = ap C.Counted (same ∙ ap length found) ∙ ap countedOf (accepted-meant file (lends board out []) (interval cell) l e)
+  interval-counted n same = ap C.Counted (same ∙ ap length found) ∙ ap countedOf (accepted-meant file (lends board out []) (interval cell) passed)
 
-  pub interval-left : (end : List ℕ) → end ≡ over (numbersOf (intervals (free (siteOf file) board cell) (l .horizon))) out
+  pub interval-left : (end : List ℕ) → end ≡ over (numbersOf (intervals (free (siteOf file) board cell) horizon)) out
       → end ≡ meant file (lends board out []) (interval cell) .lent .out
   unfolding acceptedDone
   interval-left end same =
       same ∙ ap (λ (is : List Interval). over (numbersOf is) out) found
-      ∙ ap (λ (d : Done). d .lent .out) (accepted-meant file (lends board out []) (interval cell) l e)
+      ∙ ap (λ (d : Done). d .lent .out) (accepted-meant file (lends board out []) (interval cell) passed)
 
-  -- few enough for 16 bits
-  pub interval-few : (n : ℕ) → n ≡ length (intervals (free (siteOf file) board cell) (l .horizon)) → n < 65536
-  interval-few n same =
-      let short = interval-row file board out cell l e .short in
-      omega (arith, fits (free (siteOf file) board cell) (l .horizon))
+-- few enough for 16 bits
+pub interval-few : (f : ℕ → Bool) (horizon : ℕ) → horizon ≤ horizonLimit → (n : ℕ) → n ≡ length (intervals f horizon) → n < 65536
+interval-few f horizon short n same = omega (arith, fits f horizon)

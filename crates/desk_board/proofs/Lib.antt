@@ -1,2 +1,2 @@
 pub mod IntervalLaws
-pub mod Exact
+pub mod ContractLaws

@@ -1,4 +1,4 @@
-// The public calls of the board alone. Each has two halves: the checks, which only look, and the work of a call that passed them all.
+// The public calls of the board alone. Each makes the checks 1 to 7, then its own, which only look, and then its work.
 use answers::Answer;
 use answers::Counted;
 use site::Check;
@@ -13,7 +13,8 @@ pub fn open(file: &[u8], board: &mut [u8]) -> Answer
     ensures { λ _. ⌜ now (board .exit) ≡ meant (now (file .entry)) (onBoard (now (board .entry))) opening .lent .board ⌝ }
     ensures { λ _. ⌜ now (file .exit) ≡ now (file .entry) ⌝ }
 {
-    match checks::check_board(file, board) {
+    let checked = checks::check_board(file, board);
+    match checked {
         Check::Passed(_) => {
             board::set_free(board);
             Answer::Accepted
@@ -29,8 +30,12 @@ pub fn interval(file: &[u8], board: &[u8], cell: u16, out: &mut [u16]) -> Counte
     ensures { λ _. ⌜ now (file .exit) ≡ now (file .entry) ⌝ }
     ensures { λ _. ⌜ now (board .exit) ≡ now (board .entry) ⌝ }
 {
-    match checks::check_interval(file, board, cell, out.len()) {
+    match checks::check_board(file, board) {
         Check::Passed(l) => {
+            let number = checks_board::interval_refusal(l, cell, out.len());
+            if number != 0 {
+                return Counted::Refused(number);
+            }
             let found = board_intervals::write_intervals(board, l.horizon, cell as usize, out);
             let count = found as u16;
             Counted::Counted(count)
@@ -45,9 +50,13 @@ pub fn close(file: &[u8], board: &mut [u8], holder: u8, cell: u16, first: u16, l
     ensures { λ _. ⌜ now (board .exit) ≡ meant (now (file .entry)) (onBoard (now (board .entry))) (listed (close holder cell first last)) .lent .board ⌝ }
     ensures { λ _. ⌜ now (file .exit) ≡ now (file .entry) ⌝ }
 {
-    match checks::check_close(file, board, holder, cell, first, last) {
+    match checks::check_board(file, board) {
         Check::Passed(l) => {
-            checks::close_work(board, l.horizon, holder, cell, first, last);
+            let number = checks_board::close_refusal(board, l, holder, cell, first, last);
+            if number != 0 {
+                return Answer::Refused(number);
+            }
+            checks_board::close_work(board, l.horizon, holder, cell, first, last);
             Answer::Accepted
         }
         Check::Refused(n) => Answer::Refused(n),
@@ -60,9 +69,13 @@ pub fn withdraw(file: &[u8], board: &mut [u8], holder: u8) -> Answer
     ensures { λ _. ⌜ now (board .exit) ≡ meant (now (file .entry)) (onBoard (now (board .entry))) (listed (withdraw holder)) .lent .board ⌝ }
     ensures { λ _. ⌜ now (file .exit) ≡ now (file .entry) ⌝ }
 {
-    match checks::check_withdraw(file, board, holder) {
+    match checks::check_board(file, board) {
         Check::Passed(_) => {
-            checks::withdraw_work(board, holder);
+            let number = checks_board::withdraw_refusal(board, holder);
+            if number != 0 {
+                return Answer::Refused(number);
+            }
+            checks_board::withdraw_work(board, holder);
             Answer::Accepted
         }
         Check::Refused(n) => Answer::Refused(n),

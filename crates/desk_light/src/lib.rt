@@ -1,4 +1,4 @@
-// The public calls that take a light: the checks of both, and the work of a post that passed them all.
+// The public calls that take a light. Both make the checks 1 to 7, then those of a light, which only look; a post then does its work.
 use answers::Answer;
 use site::Check;
 ghost use mathlib.Core.Path.{_≡_};
@@ -12,9 +12,15 @@ pub fn audit(file: &[u8], board: &[u8], light: &[u8]) -> Answer
     ensures { λ _. ⌜ now (board .exit) ≡ now (board .entry) ⌝ }
     ensures { λ _. ⌜ now (light .exit) ≡ now (light .entry) ⌝ }
 {
-    match checks_light::check_light(file, board, light) {
-        Check::Passed(_) => Answer::Accepted,
-        Check::Refused(number) => Answer::Refused(number),
+    match checks::check_board(file, board) {
+        Check::Passed(l) => {
+            let refusal = checks_light::light_refusal(file, board, l, light);
+            if refusal != 0 {
+                return Answer::Refused(refusal);
+            }
+            Answer::Accepted
+        }
+        Check::Refused(n) => Answer::Refused(n),
     }
 }
 
@@ -25,8 +31,12 @@ pub fn post(file: &[u8], board: &mut [u8], light: &[u8]) -> Answer
     ensures { λ _. ⌜ now (file .exit) ≡ now (file .entry) ⌝ }
     ensures { λ _. ⌜ now (light .exit) ≡ now (light .entry) ⌝ }
 {
-    match checks_light::check_light(file, board, light) {
+    match checks::check_board(file, board) {
         Check::Passed(l) => {
+            let number = checks_light::light_refusal(file, board, l, light);
+            if number != 0 {
+                return Answer::Refused(number);
+            }
             checks_light::post_work(file, board, l, light);
             Answer::Accepted
         }

@@ -10,16 +10,17 @@ use Rattle.meaning.specs.Answers.{lowest}
 use Rattle.meaning.specs.Site.{Site, siteOf}
 use Rattle.meaning.specs.Reach.{Route}
 use Rattle.meaning.specs.Light.{Light, encode}
-use Rattle.meaning.specs.Calls.{PublicCall, listed, route, lightRoom, wordsNeeded, Lent, lends, over, refusals, Done, grantedDone, acceptedDone, refusedDone, doneBy, meant}
-use Rattle.meaning.proofs.CallLaws.{meant-number}
+use Rattle.meaning.specs.Calls.{PublicCall, opening, onBoard, listed, route, lightRoom, wordsNeeded, Lent, lends, over, refusals, Done, grantedDone, acceptedDone, refusedDone, doneBy, meant}
+use Rattle.meaning.proofs.CallLaws.{meant-number, PassesTo14, named-start, named-tick, named-goal}
 use Rattle.meaning.specs.Plan.{node}
 use Rattle.site.specs.Check.{sizesOf}
+use Rattle.site.specs.Ready.{Ready}
 use Rattle.site.specs.declared.Sizes.{Sizes}
 use Rattle.site.specs.declared.Check.the-variants.{Passed, Refused}
 use Rattle.checks.specs.Checks.{checkBy}
-use Rattle.checks_route.specs.Checks.{checksTo14}
-use Rattle.checks.proofs.Laws.{size-small}
-use Rattle.checks_route.proofs.Passes as routes
+use Rattle.checks.proofs.Laws.{refused-number}
+use Rattle.checks.proofs.Passed.{ready}
+use Rattle.checks_route.proofs.RouteLaws as routes
 use Rattle.search.specs.declared.Found.the-variants as F
 use Rattle.search.specs.Finds.{Asked, routeOn, lightOn, foundOf, outOf}
 use Rattle.answers.specs.declared.Granted.{Granted}
@@ -58,55 +59,51 @@ module _ (file board out words : List ℕ) (tug start tick goal : ℕ) where
   abbrev is : Done
   is = meant file lent (listed (route tug (node start tick) goal))
 
-  abbrev checked : ℕ
-  checked = lowest (checksTo14 file lent tug (node start tick) goal)
-
+  -- refused before the search: nothing is written
   granted-refused : (n : ℕ) → 1 ≤ n → G.Refused n ≡ grantedBy n []
   granted-refused zero h = absurd (omega arith)
   granted-refused (suc n) h = refl
 
-  -- refused before the search: nothing is written
-  pub route-refused : (n : ℕ) → Refused n ≡ checkBy (siteOf file) checked → Leaves is (G.Refused n) out words
-  route-refused n e =
-      let same : is ≡ record { number = n; values = []; lent = lent } = routes.refused-meant file lent tug (node start tick) goal n e in
-      rw same (granted-refused n (routes.refused-range file lent tug (node start tick) goal n e .0), (refl, refl))
+  refused-leaves : (n : ℕ) → is ≡ record { number = n; values = []; lent = lent } → 1 ≤ n → Leaves is (G.Refused n) out words
+  refused-leaves n same above = rw same (granted-refused n above, (refl, refl))
 
-  module _ (l : Sizes) (e : Passed l ≡ checkBy (siteOf file) checked) where
-    said : l ≡ sizesOf (siteOf file)
-    said = routes.layout-said file lent tug (node start tick) goal l e
+  -- by a number up to 7
+  pub route-first : (n : ℕ) → Refused n ≡ checkBy (siteOf file) (lowest (refusals file (onBoard board) opening)) → Leaves is (G.Refused n) out words
+  route-first n e =
+      refused-leaves n (routes.first-meant file lent tug (node start tick) goal n e) (refused-number (sizesOf (siteOf file)) n _ e .1)
+
+  module _ (l : Sizes) (e : Passed l ≡ checkBy (siteOf file) (lowest (refusals file (onBoard board) opening))) where
+    -- by a number from 9 on
+    pub route-later : (n : ℕ) → n ≡ lowest (routes.checks file lent tug (node start tick) goal) → 1 ≤ n → Leaves is (G.Refused n) out words
+    route-later n same above = refused-leaves n (routes.later-meant file lent tug (node start tick) goal l e n same above) above
+
+    readied : Ready file (length board) l
+    readied = ready file (onBoard board) opening l e
+
+  module _ (l : Sizes) (e : Passed l ≡ checkBy (siteOf file) (lowest (refusals file (onBoard board) opening)))
+      (passed : 0 ≡ lowest (routes.checks file lent tug (node start tick) goal)) where
+    passes : PassesTo14 (siteOf file) lent tug (node start tick) goal
+    passes = routes.passes file lent tug (node start tick) goal l e passed
 
     -- both states are known
     pub route-states : (start < length (siteOf file .states)) × (goal < length (siteOf file .states))
-    route-states = (routes.start-below file lent tug (node start tick) goal l e, routes.goal-below file lent tug (node start tick) goal l e)
+    route-states = (named-start (siteOf file) (node start tick) goal (passes .named), named-goal (siteOf file) (node start tick) goal (passes .named))
 
     pub route-asked : (from to : ℕ) → from < length (siteOf file .states) → to < length (siteOf file .states) → Asked file l (length board) from tick to
     route-asked from to from-known to-known = record {
-      read = routes.file-read file lent tug (node start tick) goal l e;
-      says = said;
-      sized = routes.board-length file lent tug (node start tick) goal l e;
+      read = readied l e .read;
+      says = readied l e .sizes;
+      sized = readied l e .board;
       start-known = from-known;
       goal-known = to-known;
-      in-time = routes.tick-in-time file lent tug (node start tick) goal l e;
+      in-time = named-tick (siteOf file) (node start tick) goal (passes .named);
     }
 
     pub route-room : lightRoom (siteOf file) ≤ length out
-    route-room = routes.out-fits file lent tug (node start tick) goal l e
+    route-room = passes .light-room
 
-    -- the words that the search needs
-    needed : l .states * (l .horizon + 1) ≡ wordsNeeded (siteOf file)
-    needed = ap (λ (k : Sizes). k .states * (k .horizon + 1)) said
-
-    pub route-words : l .states * (l .horizon + 1) ≤ length words
-    route-words = rw needed (routes.words-fit file lent tug (node start tick) goal l e)
-
-    pub horizon-small : l .horizon ≤ 1000
-    horizon-small = rw said (routes.site-well file lent tug (node start tick) goal l e .horizon-range .1)
-
-    states-small : l .states ≤ 256
-    states-small = rw said (routes.site-well file lent tug (node start tick) goal l e .states-range .1)
-
-    pub words-few : l .states * (l .horizon + 1) ≤ 256256
-    words-few = size-small (l .states) (l .horizon) states-small horizon-small
+    pub route-words : wordsNeeded (siteOf file) ≤ length words
+    route-words = passes .words-room
 
     abbrev o : Option Route
     o = routeOn file board start tick goal
@@ -114,13 +111,9 @@ module _ (file board out words : List ℕ) (tug start tick goal : ℕ) where
     abbrev light : Light
     light = lightOn file board tug start tick goal
 
-    -- the words after they are zeroed
-    zeroed : (new : List ℕ) → new ≡ over (replicate (l .states * (l .horizon + 1)) 0) words → new ≡ over (replicate (wordsNeeded (siteOf file)) 0) words
-    zeroed new same = same ∙ ap (λ (n : ℕ). over (replicate n 0) words) needed
-
     -- a plan was found
     pub route-granted : (len arrival : ℕ) (left new : List ℕ) → F.Route len arrival ≡ foundOf o light → left ≡ outOf o light out
-        → new ≡ over (replicate (l .states * (l .horizon + 1)) 0) words → Leaves is (G.Granted len arrival) left new
+        → new ≡ over (replicate (wordsNeeded (siteOf file)) 0) words → Leaves is (G.Granted len arrival) left new
     unfolding foundOf outOf acceptedDone
     route-granted len arrival left new f w z = by-route o refl
       where
@@ -129,22 +122,22 @@ module _ (file board out words : List ℕ) (tug start tick goal : ℕ) where
             let no : F.Route len arrival ≡ F.Nothing = f ∙ ap (λ (x : Option Route). foundOf x light) q in
             absurd (let y : _≡_ {A = ℕ} 0 1 = cc in omega arith)
         by-route (some r) q =
-            let same : is ≡ grantedDone (siteOf file) lent light = routes.found-meant file lent tug (node start tick) goal l e r q in
+            let same : is ≡ grantedDone (siteOf file) lent light = routes.found-meant file lent tug (node start tick) goal l e passed r q in
             let told : F.Route len arrival ≡ F.Route (length (encode light)) (light .arrival) = f ∙ ap (λ (x : Option Route). foundOf x light) q in
             let same-length : len ≡ length (encode light) = cc in
             let same-arrival : arrival ≡ light .arrival = cc in
-            rw same (ap₂ G.Granted same-length same-arrival, (w ∙ ap (λ (x : Option Route). outOf x light out) q, zeroed new z))
+            rw same (ap₂ G.Granted same-length same-arrival, (w ∙ ap (λ (x : Option Route). outOf x light out) q, z))
 
     -- no plan exists
     pub route-none : (left new : List ℕ) → F.Nothing ≡ foundOf o light → left ≡ outOf o light out
-        → new ≡ over (replicate (l .states * (l .horizon + 1)) 0) words → Leaves is (G.Refused 18) left new
+        → new ≡ over (replicate (wordsNeeded (siteOf file)) 0) words → Leaves is (G.Refused 18) left new
     unfolding foundOf outOf
     route-none left new f w z = by-route o refl
       where
         by-route : (p : Option Route) → o ≡ p → Leaves is (G.Refused 18) left new
         by-route none q =
-            rw (routes.none-zero file lent tug (node start tick) goal l e q)
-            (refl, (w ∙ ap (λ (x : Option Route). outOf x light out) q, zeroed new z))
+            rw (routes.none-meant file lent tug (node start tick) goal l e passed q)
+            (refl, (w ∙ ap (λ (x : Option Route). outOf x light out) q, z))
         by-route (some r) q =
             let no : F.Nothing ≡ F.Route (length (encode light)) (light .arrival) = f ∙ ap (λ (x : Option Route). foundOf x light) q in
             absurd (let y : _≡_ {A = ℕ} 0 1 = cc in omega arith)

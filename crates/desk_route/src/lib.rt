@@ -1,4 +1,4 @@
-// The public call that grants a light: the checks of it, and the search of a route that passed them all.
+// The public call that grants a light. It makes the checks 1 to 7, then its own up to 14, which only look, and then searches.
 use answers::Granted;
 use search::Found;
 use site::Check;
@@ -38,9 +38,24 @@ pub fn route(
     ensures { λ _. ⌜ now (file .exit) ≡ now (file .entry) ⌝ }
     ensures { λ _. ⌜ now (board .exit) ≡ now (board .entry) ⌝ }
 {
-    match checks_route::check_route(file, board, tug, start, tick, goal, out.len(), work.len()) {
+    match checks::check_board(file, board) {
         Check::Passed(l) => {
-            zero_words(work, l.states * (l.horizon + 1));
+            let number = checks_route::route_refusal(
+                file,
+                board,
+                l,
+                tug,
+                start,
+                tick,
+                goal,
+                out.len(),
+                work.len(),
+            );
+            if number != 0 {
+                return Granted::Refused(number);
+            }
+            let words = checks_route::words_needed(l);
+            zero_words(work, words);
             match search::find(file, l, board, tug, start, tick, goal, out) {
                 Found::Route(len, arrival) => Granted::Granted(len, arrival),
                 Found::Nothing => Granted::Refused(18),

@@ -1,5 +1,5 @@
 -- The demands, of the public calls themselves: over what their contracts promise, and nothing else of the code.
--- `Learnt` and its arguments are those of crates/desk_board/proofs/Exact.antt.
+-- `Learnt` and its arguments are those of crates/desk_board/proofs/ContractLaws.antt.
 -- Assumes nothing.
 use Prim.Native.Nat.{ℕ}
 use mathlib.Core.Path.{_≡_, refl}
@@ -14,10 +14,10 @@ use Rattle.answers.specs.declared.Answer.{Answer}
 use Rattle.answers.specs.declared.Counted.{Counted}
 use Rattle.answers.specs.declared.Granted.{Granted}
 use Rattle.answers.specs.Answers.{numberOf, answerOf, countedNumber, countedValues, countedOf, grantedNumber, grantedValues, grantedOf}
-use Rattle.answers.proofs.Desks.{boardDone, lifetimes, lend, turns, allows-meant, every-run}
-use Rattle.desk_board.proofs.Exact.{open-meant, interval-meant, close-meant, withdraw-meant}
-use Rattle.desk_light.proofs.Exact.{audit-meant, post-meant}
-use Rattle.desk_route.proofs.Exact.{route-meant}
+use Rattle.answers.proofs.DeskLaws.{boardDone, lifetimes, lend, turns, AllowsSome, allows-meant, every-run}
+use Rattle.desk_board.proofs.ContractLaws.{open-meant, interval-meant, close-meant, withdraw-meant}
+use Rattle.desk_light.proofs.ContractLaws.{audit-meant, post-meant}
+use Rattle.desk_route.proofs.ContractLaws.{route-meant}
 use Rattle.desk_board.proofs.open.Reads as open-reads
 use Rattle.desk_board.proofs.interval.Reads as interval-reads
 use Rattle.desk_route.proofs.route.Reads as route-reads
@@ -133,30 +133,38 @@ asks-nothing = record {
 -- ---- the claims are not empty: the contracts allow what is meant of every call, and so a run of every list
 
 module _ (file : List ℕ) where
+  -- what is meant, of a board alone
+  abbrev onBoardDone : Lent → PublicCall → Done
+  onBoardDone l q = meant file (onBoard (l .board)) q
+
+  abbrev intervalDone : Lent → ℕ → Done
+  intervalDone l cell = meant file (lends (l .board) (l .out) []) (interval cell)
+
+  some : AllowsSome Calls file
+  some l opening =
+      (_, Calls.opens (lifetimes 2) (lend file) (lend (l .board)) (lend file) (lend (onBoardDone l opening .lent .board)) (l .out) (l .words) (answerOf (onBoardDone l opening .number)) (refl, (refl, refl)))
+  some l (interval cell) =
+      (_, Calls.counts (lifetimes 3) (lend file) (lend (l .board)) (lend (l .out)) (lend file) (lend (l .board)) (lend (intervalDone l cell .lent .out)) cell cell (l .words) (countedOf (intervalDone l cell)) (refl, (refl, (refl, refl))))
+  some l (listed (route tug a goal)) =
+      let is : Done = meant file l (listed (route tug a goal)) in (
+        _,
+        Calls.routes (lifetimes 4) (lend file) (lend (l .board)) (lend (l .out)) (lend (l .words)) (lend file) (lend (l .board)) (lend (is .lent .out)) (lend (is .lent .words))
+            tug (a .state) (a .tick) goal tug (a .state) (a .tick) goal (grantedOf is) (refl, (refl, (refl, (refl, refl)))),
+      )
+  some l (listed (audit light)) =
+      (_, Calls.audits (lifetimes 3) (lend file) (lend (l .board)) (lend light) (lend file) (lend (l .board)) (lend light) (l .out) (l .words) (answerOf (onBoardDone l (listed (audit light)) .number)) (refl, (refl, (refl, refl))))
+  some l (listed (post light)) =
+      let is : Done = onBoardDone l (listed (post light)) in
+      (_, Calls.posts (lifetimes 3) (lend file) (lend (l .board)) (lend light) (lend file) (lend (is .lent .board)) (lend light) (l .out) (l .words) (answerOf (is .number)) (refl, (refl, (refl, refl))))
+  some l (listed (close h cell first last)) =
+      let is : Done = onBoardDone l (listed (close h cell first last)) in
+      (_, Calls.closes (lifetimes 2) (lend file) (lend (l .board)) (lend file) (lend (is .lent .board)) h cell first last h cell first last (l .out) (l .words) (answerOf (is .number)) (refl, (refl, refl)))
+  some l (listed (withdraw h)) =
+      let is : Done = onBoardDone l (listed (withdraw h)) in
+      (_, Calls.withdraws (lifetimes 2) (lend file) (lend (l .board)) (lend file) (lend (is .lent .board)) h h (l .out) (l .words) (answerOf (is .number)) (refl, (refl, refl)))
+
   pub can : (l : Lent) (q : PublicCall) → Calls file l q (meant file l q)
-  can l opening =
-      let is : Done = meant file (onBoard (l .board)) opening in
-      allows-meant Calls exact (Calls.opens (lifetimes 2) (lend file) (lend (l .board)) (lend file) (lend (is .lent .board)) (l .out) (l .words) (answerOf (is .number)) (refl, (refl, refl)))
-  can l (interval cell) =
-      let is : Done = meant file (lends (l .board) (l .out) []) (interval cell) in
-      allows-meant Calls exact (Calls.counts (lifetimes 3) (lend file) (lend (l .board)) (lend (l .out)) (lend file) (lend (l .board)) (lend (is .lent .out)) cell cell (l .words) (countedOf is) (refl, (refl, (refl, refl))))
-  can l (listed (route tug a goal)) =
-      let is : Done = meant file l (listed (route tug a goal)) in
-      allows-meant Calls exact
-      (Calls.routes (lifetimes 4) (lend file) (lend (l .board)) (lend (l .out)) (lend (l .words)) (lend file) (lend (l .board)) (lend (is .lent .out)) (lend (is .lent .words))
-      tug (a .state) (a .tick) goal tug (a .state) (a .tick) goal (grantedOf is) (refl, (refl, (refl, (refl, refl)))))
-  can l (listed (audit light)) =
-      let is : Done = meant file (onBoard (l .board)) (listed (audit light)) in
-      allows-meant Calls exact (Calls.audits (lifetimes 3) (lend file) (lend (l .board)) (lend light) (lend file) (lend (l .board)) (lend light) (l .out) (l .words) (answerOf (is .number)) (refl, (refl, (refl, refl))))
-  can l (listed (post light)) =
-      let is : Done = meant file (onBoard (l .board)) (listed (post light)) in
-      allows-meant Calls exact (Calls.posts (lifetimes 3) (lend file) (lend (l .board)) (lend light) (lend file) (lend (is .lent .board)) (lend light) (l .out) (l .words) (answerOf (is .number)) (refl, (refl, (refl, refl))))
-  can l (listed (close h cell first last)) =
-      let is : Done = meant file (onBoard (l .board)) (listed (close h cell first last)) in
-      allows-meant Calls exact (Calls.closes (lifetimes 2) (lend file) (lend (l .board)) (lend file) (lend (is .lent .board)) h cell first last h cell first last (l .out) (l .words) (answerOf (is .number)) (refl, (refl, refl)))
-  can l (listed (withdraw h)) =
-      let is : Done = meant file (onBoard (l .board)) (listed (withdraw h)) in
-      allows-meant Calls exact (Calls.withdraws (lifetimes 2) (lend file) (lend (l .board)) (lend file) (lend (is .lent .board)) h h (l .out) (l .words) (answerOf (is .number)) (refl, (refl, refl)))
+  can = allows-meant Calls exact file some
 
   pub some-run : (board : List ℕ) (cs : List (Call × (List ℕ × List ℕ))) → Follows Calls file board (turns file board cs)
-  some-run = every-run Calls file can
+  some-run = every-run Calls exact file some

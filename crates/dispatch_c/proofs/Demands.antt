@@ -1,5 +1,5 @@
 -- The demands, of the exported functions: over what their contracts promise, and nothing else of the code, with the number and the
--- values read back from the word that is returned. `Learnt` and its arguments are those of crates/desk_board/proofs/Exact.antt.
+-- values read back from the word that is returned. `Learnt` and its arguments are those of crates/desk_board/proofs/ContractLaws.antt.
 -- Assumes nothing.
 use Prim.Native.Nat.{ℕ}
 use mathlib.Core.Path.{_≡_, refl}
@@ -12,7 +12,7 @@ use Rattle.meaning.proofs.AreaLaws.{BoardCall}
 use Rattle.meaning.proofs.Theorems.{exact-demands}
 use Rattle.meaning.specs.Plan.{node}
 use Rattle.answers.specs.Answers.{countedOf, grantedOf}
-use Rattle.answers.proofs.Desks.{boardDone, board-exact, audit-exact, interval-exact, route-exact, lifetimes, lend, turns, allows-meant, every-run}
+use Rattle.answers.proofs.DeskLaws.{boardDone, board-exact, audit-exact, interval-exact, route-exact, lifetimes, lend, turns, AllowsSome, allows-meant, every-run}
 use Rattle.answers_c.specs.Words.{countedWord, grantedWord, wordNumber, countedIn, grantedIn}
 use Rattle.answers_c.proofs.WordLaws.{number-back, interval-back, route-back}
 use Rattle.dispatch_c.proofs.dispatch_open.Reads as open-reads
@@ -142,31 +142,38 @@ asks-nothing = record {
 -- ---- the claims are not empty: the contracts allow what is meant of every call, and so a run of every list
 
 module _ (file : List ℕ) where
+  -- what is meant, of a board alone
+  abbrev onBoardDone : Lent → PublicCall → Done
+  onBoardDone l q = meant file (onBoard (l .board)) q
+
+  abbrev intervalDone : Lent → ℕ → Done
+  intervalDone l cell = meant file (lends (l .board) (l .out) []) (interval cell)
+
+  some : AllowsSome Exported file
+  some l opening =
+      (_, Exported.opens (lifetimes 2) (lend file) (lend (l .board)) (lend file) (lend (onBoardDone l opening .lent .board)) (l .out) (l .words) (onBoardDone l opening .number) (refl, (refl, refl)))
+  some l (interval cell) =
+      (_, Exported.counts (lifetimes 3) (lend file) (lend (l .board)) (lend (l .out)) (lend file) (lend (l .board)) (lend (intervalDone l cell .lent .out)) cell cell (l .words) (countedWord (countedOf (intervalDone l cell))) (refl, (refl, (refl, refl))))
+  some l (listed (route tug a goal)) =
+      let is : Done = meant file l (listed (route tug a goal)) in (
+        _,
+        Exported.routes (lifetimes 4) (lend file) (lend (l .board)) (lend (l .out)) (lend (l .words)) (lend file) (lend (l .board)) (lend (is .lent .out)) (lend (is .lent .words))
+            tug (a .state) (a .tick) goal tug (a .state) (a .tick) goal (grantedWord (grantedOf is)) (refl, (refl, (refl, (refl, refl)))),
+      )
+  some l (listed (audit light)) =
+      (_, Exported.audits (lifetimes 3) (lend file) (lend (l .board)) (lend light) (lend file) (lend (l .board)) (lend light) (l .out) (l .words) (onBoardDone l (listed (audit light)) .number) (refl, (refl, (refl, refl))))
+  some l (listed (post light)) =
+      let is : Done = onBoardDone l (listed (post light)) in
+      (_, Exported.posts (lifetimes 3) (lend file) (lend (l .board)) (lend light) (lend file) (lend (is .lent .board)) (lend light) (l .out) (l .words) (is .number) (refl, (refl, (refl, refl))))
+  some l (listed (close h cell first last)) =
+      let is : Done = onBoardDone l (listed (close h cell first last)) in
+      (_, Exported.closes (lifetimes 2) (lend file) (lend (l .board)) (lend file) (lend (is .lent .board)) h cell first last h cell first last (l .out) (l .words) (is .number) (refl, (refl, refl)))
+  some l (listed (withdraw h)) =
+      let is : Done = onBoardDone l (listed (withdraw h)) in
+      (_, Exported.withdraws (lifetimes 2) (lend file) (lend (l .board)) (lend file) (lend (is .lent .board)) h h (l .out) (l .words) (is .number) (refl, (refl, refl)))
+
   pub can : (l : Lent) (q : PublicCall) → Exported file l q (meant file l q)
-  can l opening =
-      let is : Done = meant file (onBoard (l .board)) opening in
-      allows-meant Exported exact (Exported.opens (lifetimes 2) (lend file) (lend (l .board)) (lend file) (lend (is .lent .board)) (l .out) (l .words) (is .number) (refl, (refl, refl)))
-  can l (interval cell) =
-      let is : Done = meant file (lends (l .board) (l .out) []) (interval cell) in
-      allows-meant Exported exact
-      (Exported.counts (lifetimes 3) (lend file) (lend (l .board)) (lend (l .out)) (lend file) (lend (l .board)) (lend (is .lent .out)) cell cell (l .words) (countedWord (countedOf is)) (refl, (refl, (refl, refl))))
-  can l (listed (route tug a goal)) =
-      let is : Done = meant file l (listed (route tug a goal)) in
-      allows-meant Exported exact
-      (Exported.routes (lifetimes 4) (lend file) (lend (l .board)) (lend (l .out)) (lend (l .words)) (lend file) (lend (l .board)) (lend (is .lent .out)) (lend (is .lent .words))
-      tug (a .state) (a .tick) goal tug (a .state) (a .tick) goal (grantedWord (grantedOf is)) (refl, (refl, (refl, (refl, refl)))))
-  can l (listed (audit light)) =
-      let is : Done = meant file (onBoard (l .board)) (listed (audit light)) in
-      allows-meant Exported exact (Exported.audits (lifetimes 3) (lend file) (lend (l .board)) (lend light) (lend file) (lend (l .board)) (lend light) (l .out) (l .words) (is .number) (refl, (refl, (refl, refl))))
-  can l (listed (post light)) =
-      let is : Done = meant file (onBoard (l .board)) (listed (post light)) in
-      allows-meant Exported exact (Exported.posts (lifetimes 3) (lend file) (lend (l .board)) (lend light) (lend file) (lend (is .lent .board)) (lend light) (l .out) (l .words) (is .number) (refl, (refl, (refl, refl))))
-  can l (listed (close h cell first last)) =
-      let is : Done = meant file (onBoard (l .board)) (listed (close h cell first last)) in
-      allows-meant Exported exact (Exported.closes (lifetimes 2) (lend file) (lend (l .board)) (lend file) (lend (is .lent .board)) h cell first last h cell first last (l .out) (l .words) (is .number) (refl, (refl, refl)))
-  can l (listed (withdraw h)) =
-      let is : Done = meant file (onBoard (l .board)) (listed (withdraw h)) in
-      allows-meant Exported exact (Exported.withdraws (lifetimes 2) (lend file) (lend (l .board)) (lend file) (lend (is .lent .board)) h h (l .out) (l .words) (is .number) (refl, (refl, refl)))
+  can = allows-meant Exported exact file some
 
   pub some-run : (board : List ℕ) (cs : List (Call × (List ℕ × List ℕ))) → Follows Exported file board (turns file board cs)
-  some-run = every-run Exported file can
+  some-run = every-run Exported exact file some

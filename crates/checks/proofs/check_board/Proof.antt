@@ -27,8 +27,11 @@ said : (c : tie.After-l) → c .l .given .0 .0 ≡ sizesOf (siteOf (start c .arg
 said c = accepted-layout _ _ (accepted c)
 
 -- the length that the code computes is the site's
-length-told : (c : tie.After-board-length) → c .board-length .result ≡ boardLength (siteOf (start (c .before .before) .args .file .now))
-length-told c = c .board-length .ensures ∙ ap (λ (l : Sizes). header + l .cells * (l .horizon + 1)) (said (c .before .before))
+abbrev arm : tie.After-length-of → tie.After-l
+arm c = c .before .before
+
+length-told : (c : tie.After-length-of) → c .length-of .result ≡ boardLength (siteOf (start (arm c) .args .file .now))
+length-told c = c .length-of .ensures ∙ ap (λ (l : Sizes). header + l .cells * (l .horizon + 1)) (said (arm c))
 
 check-site-requires : tie.Need-check-site-requires
 check-site-requires c κs = search needs
@@ -36,22 +39,21 @@ check-site-requires c κs = search needs
 enum-known-l : tie.Need-enum-known-l
 enum-known-l c = search needs
 
-board-length-requires : tie.Need-board-length-requires
-board-length-requires c κs =
+length-of-requires : tie.Need-length-of-requires
+length-of-requires c κs =
     let f = start (c .before) .args .file .now in
-    let same = said (c .before) in
     let well = read-well f _ (accepted-read f _ (accepted (c .before))) in
-    rw same (well .cells-range .1, well .horizon-range .1)
+    rw (said (c .before)) (well .cells-range .1, well .horizon-range .1)
 
 returns : tie.Need-returns
 returns c =
-    size-stops _ _ _ (accepted (c .before .before .before)) (λ e. c .if1 .taken (e ∙ sym (length-told (c .before))))
+    size-stops _ _ _ (accepted (arm (c .before))) (λ e. c .if1 .taken (e ∙ sym (length-told (c .before))))
 
 enum-known-n : tie.Need-enum-known-n
 enum-known-n c = search needs
 
 returns-2 : tie.Need-returns-2
-returns-2 c = size-passes _ _ _ (accepted (c .before .before .before)) (c .if1 .left ∙ length-told (c .before))
+returns-2 c = size-passes _ _ _ (accepted (arm (c .before))) (c .if1 .left ∙ length-told (c .before))
 
 returns-3 : tie.Need-returns-3
 returns-3 c = site-stops _ _ _ (sym (c .before .n .given .1) ∙ c .before .before .before .check-site .ensures)
@@ -62,7 +64,7 @@ check-board-spec =
     (tie.spec
     check-site-requires
     enum-known-l
-    board-length-requires
+    length-of-requires
     returns
     enum-known-n
     returns-2

@@ -5,7 +5,7 @@ use borrow.Author.Needs.{needs}
 use Rattle.meaning.specs.Site.{siteOf}
 use Rattle.meaning.specs.Light.{lightOf}
 use Rattle.meaning.specs.Calls.{lightPairs}
-use Rattle.checks.proofs.Laws.{mark-ready}
+use Rattle.checks.proofs.Laws.{mark-editable}
 use Rattle.checks_light.proofs.Laws.{ready-index, post-changes}
 use Rattle.checks_light.proofs.post_work.Statement.{statement}
 use Rattle.checks_light.proofs.post_work.Tie as tie
@@ -24,7 +24,7 @@ next-edition-requires c κs =
     let site = siteOf (start .args .file .now) in
     let light = lightOf (start .args .light .now) in
     let size = start .pre .ready .board in
-    mark-ready site (light .tug) (lightPairs site light) (start .args .board .now) _ (c .before .before .before .mark-light .ensures) (omega arith, start .pre .below)
+    mark-editable site (light .tug) (lightPairs site light) (start .args .board .now) _ (c .before .before .before .mark-light .ensures) (omega arith, start .pre .below)
 
 same-length : tie.Need-same-length
 same-length c = search needs

@@ -6,28 +6,24 @@ use mathlib.Core.List.{List}
 use lib.ListN.{length, replicate}
 use borrow.Author.Needs.{needs}
 use Rattle.meaning.specs.Answers.{lowest}
-use Rattle.meaning.specs.Site.{siteOf}
 use Rattle.meaning.specs.Calls.{opening, onBoard, refusals, Done, acceptedDone, meant}
-use Rattle.site.specs.declared.Sizes.{Sizes}
-use Rattle.site.specs.declared.Check.the-variants.{Passed}
-use Rattle.checks.specs.Checks.{checkBy}
+use Rattle.checks.proofs.Laws.{passed-number, refused-number}
 use Rattle.answers.proofs.Laws.{refused-answer, refused-board, accepted-answer, accepted-meant}
 use Rattle.desk_board.proofs.open.Statement.{statement}
 use Rattle.desk_board.proofs.open.Tie as tie
 
 -- the board that is left, every byte of it 0
-open-left : (file board : List ℕ) (l : Sizes) → Passed l ≡ checkBy (siteOf file) (lowest (refusals file (onBoard board) opening)) → (end : List ℕ)
+open-left : (file board : List ℕ) → lowest (refusals file (onBoard board) opening) ≡ 0 → (end : List ℕ)
     → end ≡ replicate (length board) 0 → end ≡ meant file (onBoard board) opening .lent .board
 unfolding acceptedDone
-open-left file board l e end same = same ∙ ap (λ (d : Done). d .lent .board) (accepted-meant file (onBoard board) opening l e)
+open-left file board none end same = same ∙ ap (λ (d : Done). d .lent .board) (accepted-meant file (onBoard board) opening none)
 
 -- where the function began, from the arm of all checks passed
 abbrev start : tie.After-enum-told → tie.Start
 start c = c .before .before .before .before .before .before
 
-passes : (c : tie.After-enum-told) → let a = start c .args in
-    Passed (c .enum-told .given .0 .0) ≡ checkBy (siteOf (a .file .now)) (lowest (refusals (a .file .now) (onBoard (a .board .now)) opening))
-passes c = sym (c .enum-told .given .1) ∙ c .before .before .check-board .ensures
+none : (c : tie.After-enum-told) → let a = start c .args in lowest (refusals (a .file .now) (onBoard (a .board .now)) opening) ≡ 0
+none c = passed-number (c .enum-told .given .0 .0) _ _ (sym (c .enum-told .given .1) ∙ c .before .before .check-board .ensures) .0
 
 check-board-requires : tie.Need-check-board-requires
 check-board-requires c κs = search needs
@@ -48,15 +44,15 @@ returns : tie.Need-returns
 returns c =
     let worked = c .before .before in
     let at = worked .before .before in
-    (accepted-answer _ (onBoard _) opening _ (passes at), (open-left _ _ _ (passes at) _ (worked .set-free .ensures), refl))
+    (accepted-answer _ (onBoard _) opening (none at), (open-left _ _ (none at) _ (worked .set-free .ensures), refl))
 
 same-length-2 : tie.Need-same-length-2
 same-length-2 c = search needs
 
 returns-2 : tie.Need-returns-2
 returns-2 c =
-    let e = sym (c .before .n .given .1) ∙ c .before .before .before .check-board .ensures in
-    (refused-answer _ (onBoard _) opening _ e, (refused-board _ (onBoard _) opening _ e, refl))
+    let by = refused-number _ _ _ (sym (c .before .n .given .1) ∙ c .before .before .before .check-board .ensures) in
+    (refused-answer _ (onBoard _) opening _ by, (refused-board _ (onBoard _) opening _ by, refl))
 
 pub open-spec : {M : Type 1} → statement M
 open-spec =

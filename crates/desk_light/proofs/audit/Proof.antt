@@ -1,38 +1,80 @@
 -- `desk_light::audit` meets its contract.
 -- Assumes nothing.
-use mathlib.Core.Path.{_≡_, refl, sym, ap, _∙_}
-use mathlib.Core.List.{List}
+use Prim.Native.Nat.{ℕ, _≤_}
+use native.Mathlib.Omega.{arith}
+use mathlib.Core.Path.{_≡_, refl, sym, _∙_}
 use borrow.Author.Needs.{needs}
-use Rattle.meaning.specs.Answers.{Refusal, lowest}
+use lib.ListN.{length}
+use Rattle.meaning.specs.Answers.{lowest}
 use Rattle.meaning.specs.Site.{siteOf}
-use Rattle.meaning.specs.Calls.{listed, audit, refusals, onBoard}
+use Rattle.meaning.specs.Calls.{opening, listed, audit, refusals, onBoard}
+use Rattle.site.specs.Ready.{Ready}
+use Rattle.site.specs.declared.Check.the-variants.{Passed}
 use Rattle.checks.specs.Checks.{checkBy}
-use Rattle.checks_light.proofs.Passes.{as-post}
+use Rattle.checks.proofs.Laws.{refused-first, later-lowest}
+use Rattle.checks.proofs.Passed.{ready}
 use Rattle.answers.proofs.Laws.{refused-answer, accepted-answer}
 use Rattle.desk_light.proofs.audit.Statement.{statement}
 use Rattle.desk_light.proofs.audit.Tie as tie
 
--- the answer of the checks, by audit's list
-checked : (c : tie.After-check-light) → let a = c .before .before .before .before .args in
-    c .check-light .result ≡ checkBy (siteOf (a .file .now)) (lowest (refusals (a .file .now) (onBoard (a .board .now)) (listed (audit (a .light .now)))))
-checked c =
-    let a = c .before .before .before .before .args in
-    c .check-light .ensures ∙ ap (λ (rs : List Refusal). checkBy (siteOf (a .file .now)) (lowest rs)) (as-post (a .file .now) (a .light .now) (onBoard (a .board .now)))
+-- where the function began, from the arm of checks 1 to 7 passed, and from behind the later ones
+abbrev start : tie.After-l → tie.Start
+start c = c .before .before .before .before .before .before
 
-check-light-requires : tie.Need-check-light-requires
-check-light-requires c κs = search needs
+abbrev arm : tie.After-light-refusal → tie.After-l
+arm c = c .before .before
 
-enum-told : tie.Need-enum-told
-enum-told c = search needs
+passes : (c : tie.After-l) → let a = start c .args in
+    Passed (c .l .given .0 .0) ≡ checkBy (siteOf (a .file .now)) (lowest (refusals (a .file .now) (onBoard (a .board .now)) opening))
+passes c = sym (c .l .given .1) ∙ c .before .before .check-board .ensures
 
-enum-known-number : tie.Need-enum-known-number
-enum-known-number c = search needs
+readied : (c : tie.After-l) → Ready (start c .args .file .now) (length (start c .args .board .now)) (c .l .given .0 .0)
+readied c = ready _ (onBoard _) opening _ (passes c)
+
+-- the number is the call's
+abbrev number : tie.Start → ℕ
+number s = let a = s .args in lowest (refusals (a .file .now) (onBoard (a .board .now)) (listed (audit (a .light .now))))
+
+low : (c : tie.After-light-refusal) → number (start (arm c)) ≡ c .light-refusal .result
+low c = later-lowest _ (onBoard _) (listed (audit _)) _ (passes (arm c)) ∙ sym (c .light-refusal .ensures)
+
+none : (c : tie.Else1) → number (start (arm (c .before))) ≡ 0
+none c = low (c .before) ∙ c .if1 .left
+
+check-board-requires : tie.Need-check-board-requires
+check-board-requires c κs = search needs
+
+enum-known-l : tie.Need-enum-known-l
+enum-known-l c = search needs
+
+light-refusal-requires : tie.Need-light-refusal-requires
+light-refusal-requires c κs = readied (c .before)
 
 returns : tie.Need-returns
-returns c = (accepted-answer _ (onBoard _) (listed (audit _)) _ (sym (c .enum-told .given .1) ∙ checked (c .before .before)), (refl, (refl, refl)))
+returns c =
+    let refused = c .before in
+    let by : (number (start (arm refused)) ≡ refused .light-refusal .result) × (1 ≤ refused .light-refusal .result) = (low refused, omega arith) in
+    (refused-answer _ (onBoard _) (listed (audit _)) _ by, (refl, (refl, refl)))
+
+enum-known-n : tie.Need-enum-known-n
+enum-known-n c = search needs
 
 returns-2 : tie.Need-returns-2
-returns-2 c = (refused-answer _ (onBoard _) (listed (audit _)) _ (sym (c .before .number .given .1) ∙ checked (c .before .before .before)), (refl, (refl, refl)))
+returns-2 c = (accepted-answer _ (onBoard _) (listed (audit _)) (none c), (refl, (refl, refl)))
+
+returns-3 : tie.Need-returns-3
+returns-3 c =
+    let by = refused-first _ (onBoard _) (listed (audit _)) _ (sym (c .before .n .given .1) ∙ c .before .before .before .check-board .ensures) in
+    (refused-answer _ (onBoard _) (listed (audit _)) _ by, (refl, (refl, refl)))
 
 pub audit-spec : {M : Type 1} → statement M
-audit-spec = tie.close (tie.spec check-light-requires enum-told enum-known-number returns returns-2)
+audit-spec =
+    tie.close
+    (tie.spec
+    check-board-requires
+    enum-known-l
+    light-refusal-requires
+    returns
+    enum-known-n
+    returns-2
+    returns-3)
