@@ -4,6 +4,7 @@ use light_read::Step;
 use plan_steps::Node;
 use site::Sizes;
 use site::Trip;
+use site_layout::MOTION_LIMIT;
 use time::Span;
 use time::Tick;
 ghost use mathlib.Core.Path.{_≡_};
@@ -73,7 +74,7 @@ fn walk_steps(
     file: &[u8],
     board: &[u8],
     sizes: Sizes,
-    index: &[u16; 2000],
+    index: &[u16; MOTION_LIMIT],
     light: &[u8],
     first: usize,
     start: Node,
@@ -116,7 +117,7 @@ pub fn light_valid(
     file: &[u8],
     board: &[u8],
     sizes: Sizes,
-    index: &[u16; 2000],
+    index: &[u16; MOTION_LIMIT],
     light: &[u8],
 ) -> bool
     requires { ⌜ Ready (now file) (length (now board)) sizes × Index (now file) (now index) × (isLight (now light) ≡ true) ⌝ }

@@ -1,5 +1,6 @@
 // The site file: refusals 1 to 6, and access to what an accepted file says.
 use site_layout::Head;
+use site_layout::MOTION_LIMIT;
 ghost use mathlib.Core.Path.{_≡_};
 ghost use mathlib.Core.Bool.{true};
 ghost use mathlib.Core.List.{map};
@@ -15,12 +16,20 @@ ghost use Rattle.site_layout.specs.Laid.{statePlace, HeadIs, Laid, StateValue};
 ghost use Rattle.site.specs.Motions.{MotionIs, Motions, Index};
 ghost use Rattle.site.specs.Check.{sizesOf, checkOf};
 
-// Where the state `i` starts: the head has 8 bytes, and each state has 5.
+// The most bytes of a site file.
+const FILE_LIMIT: usize = 65536;
+
+// The bytes of the head's field, and of a state's.
+const HEAD_FIELD: usize = site_layout::FIELD_HEADER + site_layout::HEAD_SIZE;
+
+const STATE_FIELD: usize = site_layout::FIELD_HEADER + site_layout::STATE_SIZE;
+
+// Where the state `i` starts: after the head and the states before it.
 fn state_place(i: usize) -> usize
     requires { ⌜ i < 65536 ⌝ }
     ensures { λ r. ⌜ r ≡ statePlace i ⌝ }
 {
-    8 + 5 * i
+    HEAD_FIELD + STATE_FIELD * i
 }
 
 // Where the value of the state `i` starts.
@@ -28,7 +37,7 @@ fn state_value(file: &[u8], i: usize) -> usize
     requires { ⌜ Laid (now file) × (i < length (siteOf (now file) .states)) ⌝ }
     ensures { λ r. ⌜ StateValue (now (file .entry)) i r ⌝ }
 {
-    state_place(i) + 3
+    state_place(i) + site_layout::FIELD_HEADER
 }
 
 // The cell and the speed of the state `i`.
@@ -83,7 +92,7 @@ pub fn read_motion(file: &[u8], at: usize) -> Motion
         from: fields::number_at(file, start),
         to: fields::number_at(file, start + 2),
         span: file[start + 4],
-        first: start + 5,
+        first: start + site_layout::MOTION_SIZE,
         count: site_layout::sweep_count(len),
     }
 }
@@ -206,7 +215,7 @@ fn check_values(file: &[u8], head: Head) -> Check
 pub fn check_site(file: &[u8]) -> Check
     ensures { λ r. ⌜ r ≡ checkOf (readSite (now (file .entry))) ⌝ }
 {
-    if 65536 < file.len() {
+    if FILE_LIMIT < file.len() {
         return Check::Refused(1);
     }
     if !fields::fields_complete(file) {
@@ -223,11 +232,11 @@ pub fn check_site(file: &[u8]) -> Check
 }
 
 // The index: where each motion's field starts, found in one walk from `start`, where the motions start.
-pub fn motion_index(file: &[u8], start: usize) -> [u16; 2000]
+pub fn motion_index(file: &[u8], start: usize) -> [u16; MOTION_LIMIT]
     requires { ⌜ (length (now file) ≤ 65536) × Laid (now file) × (start ≡ statePlace (length (siteOf (now file) .states))) ⌝ }
     ensures { λ r. ⌜ Index (now (file .entry)) r ⌝ }
 {
-    let mut index = [0u16; 2000];
+    let mut index = [0u16; MOTION_LIMIT];
     let mut at = start;
     let mut n = 0;
     while at < file.len() {
@@ -239,7 +248,7 @@ pub fn motion_index(file: &[u8], start: usize) -> [u16; 2000]
 }
 
 // The motion of the number `k`, by the index.
-pub fn motion_at(file: &[u8], index: &[u16; 2000], k: usize) -> Motion
+pub fn motion_at(file: &[u8], index: &[u16; MOTION_LIMIT], k: usize) -> Motion
     requires { ⌜ Laid (now file) × Index (now file) (now index) × (k < length (siteOf (now file) .motions)) ⌝ }
     ensures { λ r. ⌜ MotionIs (now (file .entry)) (motionAt (siteOf (now (file .entry))) k) r ⌝ }
 {

@@ -10,6 +10,33 @@ ghost use Rattle.meaning.specs.Site.{headOf, headGood, isState, isMotion, sweep
 ghost use Rattle.fields.specs.Places.{fieldsAt};
 ghost use Rattle.site_layout.specs.Laid.{firstIs, headValues, motionLength, HeadIs};
 
+// The most that H, C and S may be, and the most motions and sweeps of a motion.
+const HORIZON_LIMIT: usize = 1000;
+
+const CELL_LIMIT: usize = 255;
+
+const STATE_LIMIT: usize = 256;
+
+pub const MOTION_LIMIT: usize = 2000;
+
+const SWEEP_LIMIT: usize = 16;
+
+// The tags of the fields.
+const HEAD_TAG: u8 = 1;
+
+const STATE_TAG: u8 = 2;
+
+const MOTION_TAG: u8 = 3;
+
+// Bytes: a field's tag and length, and the values; a motion's before its sweeps.
+pub const FIELD_HEADER: usize = 3;
+
+pub const HEAD_SIZE: usize = 5;
+
+pub const STATE_SIZE: usize = 2;
+
+pub const MOTION_SIZE: usize = 5;
+
 fn in_range(n: usize, lo: usize, hi: usize) -> bool
     ensures { λ r. ⌜ r ≡ within lo hi n ⌝ }
 {
@@ -24,13 +51,13 @@ fn head_values(file: &[u8], at: usize) -> bool
     requires { ⌜ at + 5 ≤ length (now file) ⌝ }
     ensures { λ r. ⌜ r ≡ headValues (now (file .entry)) at ⌝ }
 {
-    if !in_range(fields::number_at(file, at), 1, 1000) {
+    if !in_range(fields::number_at(file, at), 1, HORIZON_LIMIT) {
         return false;
     }
-    if !in_range(fields::byte_at(file, at + 2), 1, 255) {
+    if !in_range(fields::byte_at(file, at + 2), 1, CELL_LIMIT) {
         return false;
     }
-    in_range(fields::number_at(file, at + 3), 1, 256)
+    in_range(fields::number_at(file, at + 3), 1, STATE_LIMIT)
 }
 
 // The first field is a head with values in range.
@@ -39,10 +66,10 @@ pub fn head_good(file: &[u8]) -> bool
 {
     match fields::read_item(file, 0) {
         Item::Field(h) => {
-            if h.tag != 1 {
+            if h.tag != HEAD_TAG {
                 return false;
             }
-            if h.len != 5 {
+            if h.len != HEAD_SIZE {
                 return false;
             }
             head_values(file, h.start)
@@ -58,10 +85,10 @@ fn is_state(file: &[u8], at: usize) -> bool
 {
     match fields::read_item(file, at) {
         Item::Field(h) => {
-            if h.tag != 2 {
+            if h.tag != STATE_TAG {
                 return false;
             }
-            h.len == 2
+            h.len == STATE_SIZE
         }
         Item::Cut => false,
         Item::End => false,
@@ -72,10 +99,10 @@ fn is_state(file: &[u8], at: usize) -> bool
 pub fn sweep_count(len: usize) -> usize
     ensures { λ r. ⌜ r ≡ sweepCount len ⌝ }
 {
-    if len < 5 {
+    if len < MOTION_SIZE {
         return 0;
     }
-    (len - 5) / 3
+    (len - MOTION_SIZE) / site_sweeps::SWEEP_SIZE
 }
 
 // A value of `len` bytes has 1 to 16 sweeps, and nothing beside them.
@@ -83,10 +110,10 @@ fn motion_length(len: usize) -> bool
     ensures { λ r. ⌜ r ≡ motionLength len ⌝ }
 {
     let count = sweep_count(len);
-    if !in_range(count, 1, 16) {
+    if !in_range(count, 1, SWEEP_LIMIT) {
         return false;
     }
-    len == 5 + 3 * count
+    len == MOTION_SIZE + site_sweeps::SWEEP_SIZE * count
 }
 
 // A field that is laid out as a motion starts at `at`.
@@ -95,7 +122,7 @@ fn is_motion(file: &[u8], at: usize) -> bool
 {
     match fields::read_item(file, at) {
         Item::Field(h) => {
-            if h.tag != 3 {
+            if h.tag != MOTION_TAG {
                 return false;
             }
             motion_length(h.len)
@@ -127,7 +154,7 @@ fn motions_laid(file: &[u8], start: usize) -> bool
     ensures { λ r. ⌜ r ≡ motionsLaid (listed (fieldsAt (now (file .entry)) start)) ⌝ }
 {
     if all_motions(file, start) {
-        fields::count_fields(file, start) <= 2000
+        fields::count_fields(file, start) <= MOTION_LIMIT
     } else {
         false
     }

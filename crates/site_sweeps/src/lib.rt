@@ -8,7 +8,7 @@ ghost use Rattle.meaning.specs.Site.{covers, uses, handover, sweepGood, sweepsG
 ghost use Rattle.site_sweeps.specs.Places.{sweepAt, sweepsAt, sweepOf, Within, Linked, SweepIs};
 
 // The bytes of a sweep in the file: its cell, its first and its last offset.
-const SWEEP_SIZE: usize = 3;
+pub const SWEEP_SIZE: usize = 3;
 
 // A sweep: its cell, and the first and the last offset at which it uses it.
 pub struct Sweep {

@@ -14,6 +14,13 @@ use borrow.Author.Needs.{needs}
 use Rattle.site.proofs.check_site.Statement.{statement}
 use Rattle.site.proofs.check_site.Tie as tie
 
+-- a file that is short enough
+returns-2 : tie.Need-returns-2
+returns-2 c =
+    let f = c .before .before .before .before .args .file .now in
+    let w : complete (fields f) ≡ false = sym (c .before .fields-complete .ensures) ∙ not-true _ (c .if2 .taken) in
+    sym (number-2 f (omega arith) w)
+
 returns : tie.Need-returns
 returns c =
     let f = c .before .before .args .file .now in
@@ -21,12 +28,6 @@ returns c =
 
 fields-complete-requires : tie.Need-fields-complete-requires
 fields-complete-requires c κs = search needs
-
-returns-2 : tie.Need-returns-2
-returns-2 c =
-    let f = c .before .before .before .before .args .file .now in
-    let w : complete (fields f) ≡ false = sym (c .before .fields-complete .ensures) ∙ not-true _ (c .if2 .taken) in
-    sym (number-2 f (omega arith) w)
 
 head-good-requires : tie.Need-head-good-requires
 head-good-requires c κs = search needs

@@ -11,6 +11,16 @@ use borrow.Author.Needs.{needs}
 use Rattle.site_layout.proofs.head_values.Statement.{statement}
 use Rattle.site_layout.proofs.head_values.Tie as tie
 
+-- the values that are taken
+returns-3 : tie.Need-returns-3
+unfolding headValues
+returns-3 c =
+    let a = c .before .before .before .before .before .before .before .before .before .args in
+    let f = a .file .now in
+    let h : within 1 1000 (u16At f (a .at)) ≡ true = sym (ap (within 1 1000) (c .before .before .before .before .before .before .before .number-at .ensures .0)) ∙ sym (c .before .before .before .before .before .before .in-range .ensures) ∙ not-false _ (c .before .before .before .before .before .if1 .left) in
+    let k : within 1 255 (getD f (a .at + 2) 0) ≡ true = sym (ap (within 1 255) (c .before .before .before .before .byte-at .ensures .0)) ∙ sym (c .before .before .before .in-range2 .ensures) ∙ not-false _ (c .before .before .if2 .left) in
+    simp (h, k) (c .in-range3 .ensures ∙ ap (within 1 256) (c .before .number-at2 .ensures .0))
+
 number-at-requires : tie.Need-number-at-requires
 number-at-requires c κs = search needs
 
@@ -51,15 +61,6 @@ number-at-requires-2 c κs = search needs
 
 in-range-requires-3 : tie.Need-in-range-requires-3
 in-range-requires-3 c κs = search needs
-
-returns-3 : tie.Need-returns-3
-unfolding headValues
-returns-3 c =
-    let a = c .before .before .before .before .before .before .before .before .before .args in
-    let f = a .file .now in
-    let h : within 1 1000 (u16At f (a .at)) ≡ true = sym (ap (within 1 1000) (c .before .before .before .before .before .before .before .number-at .ensures .0)) ∙ sym (c .before .before .before .before .before .before .in-range .ensures) ∙ not-false _ (c .before .before .before .before .before .if1 .left) in
-    let k : within 1 255 (getD f (a .at + 2) 0) ≡ true = sym (ap (within 1 255) (c .before .before .before .before .byte-at .ensures .0)) ∙ sym (c .before .before .before .in-range2 .ensures) ∙ not-false _ (c .before .before .if2 .left) in
-    simp (h, k) (c .in-range3 .ensures ∙ ap (within 1 256) (c .before .number-at2 .ensures .0))
 
 pub head-values-spec : {M : Type 1} → statement M
 head-values-spec =

@@ -14,6 +14,14 @@ use borrow.Author.Needs.{needs}
 use Rattle.site_layout.proofs.motion_length.Statement.{statement}
 use Rattle.site_layout.proofs.motion_length.Tie as tie
 
+-- the lengths that are taken
+returns-2 : tie.Need-returns-2
+unfolding motionLength
+returns-2 c =
+    let n = c .before .before .before .args .len in
+    let h : within 1 16 (sweepCount n) ≡ true = sym (ap (within 1 16) (c .before .before .sweep-count .ensures)) ∙ sym (c .before .in-range .ensures) ∙ not-false _ (c .if1 .left) in
+    simp h (ap (λ (k : ℕ). eqb n (5 + 3 * k)) (c .before .before .sweep-count .ensures))
+
 sweep-count-requires : tie.Need-sweep-count-requires
 sweep-count-requires c κs = search needs
 
@@ -38,13 +46,6 @@ add-result c =
     let h = within-range 1 16 (c .before .before .sweep-count .result) (sym (c .before .in-range .ensures) ∙ not-false _ (c .if1 .left)) in
     let m = h .1 in
     omega arith
-
-returns-2 : tie.Need-returns-2
-unfolding motionLength
-returns-2 c =
-    let n = c .before .before .before .args .len in
-    let h : within 1 16 (sweepCount n) ≡ true = sym (ap (within 1 16) (c .before .before .sweep-count .ensures)) ∙ sym (c .before .in-range .ensures) ∙ not-false _ (c .if1 .left) in
-    simp h (ap (λ (k : ℕ). eqb n (5 + 3 * k)) (c .before .before .sweep-count .ensures))
 
 pub motion-length-spec : {M : Type 1} → statement M
 motion-length-spec =
