@@ -34,8 +34,8 @@ enum-told c = search needs
 set-free-requires : tie.Need-set-free-requires
 set-free-requires c κs = search needs
 
-enum-known-n : tie.Need-enum-known-n
-enum-known-n c = search needs
+enum-known-checked : tie.Need-enum-known-checked
+enum-known-checked c = search needs
 
 same-length : tie.Need-same-length
 same-length c = search needs
@@ -51,7 +51,7 @@ same-length-2 c = search needs
 
 returns-2 : tie.Need-returns-2
 returns-2 c =
-    let by = refused-number _ _ _ (sym (c .before .n .given .1) ∙ c .before .before .before .check-board .ensures) in
+    let by = refused-number _ _ _ (sym (c .before .checked .given .1) ∙ c .before .before .before .check-board .ensures) in
     (refused-answer _ (onBoard _) opening _ by, (refused-board _ (onBoard _) opening _ by, refl))
 
 pub open-spec : {M : Type 1} → statement M
@@ -61,7 +61,7 @@ open-spec =
     check-board-requires
     enum-told
     set-free-requires
-    enum-known-n
+    enum-known-checked
     same-length
     returns
     same-length-2
