@@ -15,8 +15,8 @@ use Rattle.meaning.specs.Plan.{node}
 use Rattle.site.specs.Check.{sizesOf}
 use Rattle.site.specs.declared.Sizes.{Sizes}
 use Rattle.light_write.specs.Codes.{stepsIn}
-use Rattle.search.specs.declared.Plan.{Plan}
-use Rattle.search.specs.declared.Plan.the-variants.{Steps, Missing}
+use Rattle.search.specs.declared.Traced.{Traced}
+use Rattle.search.specs.declared.Traced.the-variants.{Steps, Missing}
 use Rattle.search.specs.declared.Found.{Found}
 use Rattle.search.specs.declared.Found.the-variants as Found
 
@@ -37,7 +37,7 @@ abbrev pub lightOn : List ℕ → List ℕ → ℕ → ℕ → ℕ → ℕ → L
 lightOn file board tug start tick goal = grantedLight (siteOf file) (bytesView (siteOf file) board) tug (node start tick) goal
 
 -- the plan says the route, whose steps are in the path
-unfoldable pub Planned : Option Route → List ℕ → Plan → Type 0
+unfoldable pub Planned : Option Route → List ℕ → Traced → Type 0
 Planned o path (Steps count arrival) = o ≡ some (record { steps = stepsIn path count; arrival = arrival })
 Planned o path Missing = o ≡ none
 

@@ -1,5 +1,7 @@
 // The search of a route call on an accepted site: the plan with the least arrival, and its light.
 use light::Head;
+use search_sizes::ALLOWED_WORDS;
+use search_sizes::PATH_CODES;
 use site::Sizes;
 ghost use mathlib.Core.Path.{_≡_};
 ghost use Prim.Native.Nat.{_≤_};
@@ -9,7 +11,7 @@ ghost use Rattle.meaning.specs.Calls.{lightRoom};
 ghost use Rattle.search.specs.Finds.{Asked, routeOn, lightOn, Planned, foundOf, outOf};
 
 // A plan's number of steps and its arrival, or that there is none.
-enum Plan {
+enum Traced {
     Steps(usize, usize),
     Missing,
 }
@@ -22,15 +24,15 @@ fn search(
     start: usize,
     tick: usize,
     goal: usize,
-    path: &mut [u16; 1024],
-) -> Plan
+    path: &mut [u16; PATH_CODES],
+) -> Traced
     requires { ⌜ Asked (now file) layout (length (now board)) start tick goal ⌝ }
     ensures { λ r. ⌜ Planned (routeOn (now (file .entry)) (now (board .entry)) start tick goal) (now (path .exit)) r ⌝ }
 {
     let states = search_site::decode_states(file, layout.states);
     let moves = search_site::decode_moves(file, layout.start, layout.motions);
     let frees = search_free::free_rows(board, layout.cells, layout.horizon);
-    let mut allowed = [18446744073709551615u64; 32000];
+    let mut allowed = [18446744073709551615u64; ALLOWED_WORDS];
     search_reach::allow_all(&mut allowed, &frees, &moves, file, layout.motions);
     let reached = search_reach::explore(
         &states,
@@ -44,7 +46,7 @@ fn search(
     );
     let arrival = search_back::arrival(&reached, goal, tick, layout.horizon);
     if layout.horizon < arrival {
-        return Plan::Missing;
+        return Traced::Missing;
     }
     let count = search_trace::trace_back(
         &states,
@@ -59,7 +61,7 @@ fn search(
         arrival,
         path,
     );
-    Plan::Steps(count, arrival)
+    Traced::Steps(count, arrival)
 }
 
 // The number of bytes of the light and the arrival, or that no plan exists.
@@ -85,7 +87,7 @@ pub fn find(
     ensures { λ _. ⌜ now (out .exit) ≡ outOf (routeOn (now (file .entry)) (now (board .entry)) start tick goal)
         (lightOn (now (file .entry)) (now (board .entry)) tug start tick goal) (now (out .entry)) ⌝ }
 {
-    let mut path = [0u16; 1024];
+    let mut path = [0u16; PATH_CODES];
     match search(
         file,
         layout,
@@ -95,7 +97,7 @@ pub fn find(
         goal as usize,
         &mut path,
     ) {
-        Plan::Steps(count, arrival) => {
+        Traced::Steps(count, arrival) => {
             let edition = board::read_edition(board);
             let head = Head {
                 edition,
@@ -108,6 +110,6 @@ pub fn find(
             light_write::write_light(out, &path, count, head);
             Found::Route(light::length_of(count) as u16, arrival as u16)
         }
-        Plan::Missing => Found::Nothing,
+        Traced::Missing => Found::Nothing,
     }
 }

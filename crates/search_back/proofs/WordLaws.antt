@@ -21,7 +21,7 @@ use Rattle.meaning.proofs.ReachLaws.{waited, arrives, word-first, word-next, wo
 use Rattle.search_ticks.specs.Rows.{has}
 use Rattle.search_site.specs.Arrays.{cellAt, speedAt, fromAt, toAt, spanAt}
 use Rattle.search_reach.specs.Reached.{reachedAt, ReachedRows}
-use Rattle.search_reach.proofs.RightLaws.{wait-made, wait-stands, wait-both, move-made, move-free}
+use Rattle.search_reach.proofs.LeastLaws.{wait-made, wait-stands, wait-both, move-made, move-free}
 use Rattle.search_back.specs.Words.{waitHit, moveHit, firstMove, wordAt, arrivalIn, Sets}
 
 -- ---- conjunctions

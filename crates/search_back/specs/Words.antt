@@ -11,6 +11,7 @@ use Rattle.meaning.specs.Site.{Site, motionAt}
 use Rattle.meaning.specs.Board.{Free}
 use Rattle.meaning.specs.Plan.{Node, sweepsFree}
 use Rattle.meaning.specs.Reach.{wordBy, rowsTo, wordIn}
+use Rattle.search_sizes.specs.Sizes.{rowTicks}
 use Rattle.search_ticks.specs.Rows.{has}
 use Rattle.search_site.specs.Arrays.{cellAt, speedAt, fromAt, toAt, spanAt}
 use Rattle.search_site.specs.Decoded.{Decoded}
@@ -38,6 +39,6 @@ arrivalIn site f a n goal = least (λ (k : ℕ). not (isZero (wordIn (rowsTo sit
 -- the arrays hold the site, and the rows hold its free ticks, allowed starts and reached pairs
 pub record Sets (site : Site) (f : Free) (a : Node) (n k : ℕ) (st mv sw fr al re : List ℕ) : Type 0 where
   pub decoded : Decoded site n k st mv sw
-  pub frees : (c t : ℕ) → t < 1024 → has fr c t ≡ f c t
-  pub starts : (m t : ℕ) → m < k → t < 1024 → has al m t ≡ sweepsFree f (motionAt site m .sweeps) t
+  pub frees : (c t : ℕ) → t < rowTicks → has fr c t ≡ f c t
+  pub starts : (m t : ℕ) → m < k → t < rowTicks → has al m t ≡ sweepsFree f (motionAt site m .sweeps) t
   pub reached : ReachedRows site f a re

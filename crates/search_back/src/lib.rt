@@ -11,13 +11,14 @@ ghost use Rattle.meaning.specs.Board.{Free};
 ghost use Rattle.meaning.specs.WellFormed.{WellFormed};
 ghost use Rattle.meaning.specs.Reach.{wordBy, reachWord};
 ghost use Rattle.meaning.specs.Plan.{node};
+ghost use Rattle.search_sizes.specs.Sizes.{rowWords, rowTicks, freeWords, reachedWords};
 ghost use Rattle.search_site.specs.Arrays.{States, Motions};
 ghost use Rattle.search_reach.specs.Reached.{ReachedRows};
 ghost use Rattle.search_back.specs.Words.{waitHit, moveHit, firstMove, arrivalIn, Sets};
 
 // The first tick from `tick` on at which the goal is reached, or the tick after the horizon.
 pub fn arrival(reached: &[u64], goal: usize, tick: usize, horizon: usize) -> usize
-    requires { ⌜ (goal * 16 + 16 ≤ length (now reached)) × ((tick ≤ horizon) × (horizon ≤ 1000)) ⌝ }
+    requires { ⌜ (goal * rowWords + rowWords ≤ length (now reached)) × ((tick ≤ horizon) × (horizon ≤ 1000)) ⌝ }
     ensures { λ r. ⌜ tick ≤ r ⌝ }
     ensures { λ r. ⌜ ((site : Site) (f : Free) (start : ℕ) → WellFormed site → site .horizon ≡ horizon
         → ReachedRows site f (node start tick) (now (reached .entry))
@@ -35,8 +36,8 @@ pub fn arrival(reached: &[u64], goal: usize, tick: usize, horizon: usize) -> usi
 
 // Whether a one-tick wait from a reached pair ends in (s, t).
 fn wait_hit(states: &[u16], frees: &[u64], reached: &[u64], n: usize, s: usize, t: usize) -> bool
-    requires { ⌜ States n (now states) × ((s < n) × ((1 ≤ t) × (t < 1024))) ⌝ }
-    requires { ⌜ (4096 ≤ length (now frees)) × (4096 ≤ length (now reached)) ⌝ }
+    requires { ⌜ States n (now states) × ((s < n) × ((1 ≤ t) × (t < rowTicks))) ⌝ }
+    requires { ⌜ (freeWords ≤ length (now frees)) × (reachedWords ≤ length (now reached)) ⌝ }
     ensures { λ r. ⌜ r ≡ waitHit (now (states .entry)) (now (frees .entry)) (now (reached .entry)) s t ⌝ }
 {
     if search_site::speed_of(states, n, s) != 0 {
@@ -59,8 +60,8 @@ fn move_hit(
     t: usize,
     m: usize,
 ) -> bool
-    requires { ⌜ Motions k (now moves) × ((m < k) × (t < 1024)) ⌝ }
-    requires { ⌜ (k * 16 ≤ length (now allowed)) × (4096 ≤ length (now reached)) ⌝ }
+    requires { ⌜ Motions k (now moves) × ((m < k) × (t < rowTicks)) ⌝ }
+    requires { ⌜ (k * rowWords ≤ length (now allowed)) × (reachedWords ≤ length (now reached)) ⌝ }
     ensures { λ r. ⌜ r ≡ moveHit (now (moves .entry)) (now (allowed .entry)) (now (reached .entry)) s t m ⌝ }
 {
     let to = search_site::to_of(moves, k, m);
@@ -86,8 +87,8 @@ fn first_move(
     s: usize,
     t: usize,
 ) -> usize
-    requires { ⌜ Motions k (now moves) × (t < 1024) ⌝ }
-    requires { ⌜ (k * 16 ≤ length (now allowed)) × (4096 ≤ length (now reached)) ⌝ }
+    requires { ⌜ Motions k (now moves) × (t < rowTicks) ⌝ }
+    requires { ⌜ (k * rowWords ≤ length (now allowed)) × (reachedWords ≤ length (now reached)) ⌝ }
     ensures { λ r. ⌜ r ≡ wordBy false (firstMove (now (moves .entry)) (now (allowed .entry)) (now (reached .entry)) k s t) ⌝ }
 {
     let mut m = 0;
@@ -114,7 +115,7 @@ pub fn word_at(
     t: usize,
 ) -> usize
     requires { ⌜ States n (now states) × Motions k (now moves) ⌝ }
-    requires { ⌜ (4096 ≤ length (now frees)) × ((k * 16 ≤ length (now allowed)) × (4096 ≤ length (now reached))) ⌝ }
+    requires { ⌜ (freeWords ≤ length (now frees)) × ((k * rowWords ≤ length (now allowed)) × (reachedWords ≤ length (now reached))) ⌝ }
     requires { ⌜ (s < n) × ((tick ≤ t) × (t ≤ 1000)) ⌝ }
     ensures { λ r. ⌜ ((site : Site) (f : Free) (start : ℕ) (sw : List ℕ) → WellFormed site → t ≤ site .horizon
         → Sets site f (node start tick) n k (now (states .entry)) (now (moves .entry)) sw (now (frees .entry)) (now (allowed .entry)) (now (reached .entry))

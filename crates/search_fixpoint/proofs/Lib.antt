@@ -1,3 +1,3 @@
-pub mod GoingLaws
+pub mod StepsLaws
 pub mod ProgressLaws
 pub mod ListLaws

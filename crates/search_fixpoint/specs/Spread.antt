@@ -6,6 +6,7 @@ use mathlib.Core.Bool.{cond}
 use mathlib.Core.List.{List}
 use lib.Dec.{eqb}
 use lib.ListN.{getD}
+use Rattle.search_sizes.specs.Sizes.{rowTicks, stateRows, motionRows}
 use Rattle.search_ticks.specs.Rows.{has, total}
 use Rattle.search_site.specs.Arrays.{fromAt}
 use Rattle.search_step.specs.Sets.{Pairs, WaitClosed, MoveClosed}
@@ -17,7 +18,7 @@ pub data Chain : List ℕ → ℕ → ℕ → ℕ → Type 0 where
 
 -- each of k motions is on the list of its state
 abbrev pub Listed : ℕ → List ℕ → List ℕ → Type 0
-Listed k mv ls = (m : ℕ) → m < k → Chain ls k (getD ls (2000 + fromAt mv m) 0) m
+Listed k mv ls = (m : ℕ) → m < k → Chain ls k (getD ls (motionRows + fromAt mv m) 0) m
 
 -- the motions from s are closed
 abbrev pub MovesClosed : ℕ → List ℕ → List ℕ → ℕ → Pairs → Type 0
@@ -25,11 +26,11 @@ MovesClosed k mv al s R = (m : ℕ) → m < k → fromAt mv m ≡ s → MoveClos
 
 -- where no growth is noted, waits and motions are closed
 abbrev pub Tried : ℕ → ℕ → List ℕ → List ℕ → List ℕ → List ℕ → List ℕ → Pairs → Type 0
-Tried n k st mv fr al g R = (s : ℕ) → s < 256 → getD g s 0 ≡ 0 → (s < n → WaitClosed st fr s R) × MovesClosed k mv al s R
+Tried n k st mv fr al g R = (s : ℕ) → s < stateRows → getD g s 0 ≡ 0 → (s < n → WaitClosed st fr s R) × MovesClosed k mv al s R
 
 -- where no growth is noted in g, none was noted in g₀, and the row is as it was
 abbrev pub Noted : List ℕ → List ℕ → List ℕ → List ℕ → Type 0
-Noted l₀ g₀ l g = (s : ℕ) → s < 256 → getD g s 0 ≡ 0 → (getD g₀ s 0 ≡ 0) × ((t : ℕ) → t < 1024 → has l s t ≡ has l₀ s t)
+Noted l₀ g₀ l g = (s : ℕ) → s < stateRows → getD g s 0 ≡ 0 → (getD g₀ s 0 ≡ 0) × ((t : ℕ) → t < rowTicks → has l s t ≡ has l₀ s t)
 
 -- some steps from l₀ to l: the sum of the words has grown, or nothing has changed and Q holds
 pub data Progress (l₀ l : List ℕ) (Q : Type 0) : Type 0 where
@@ -47,7 +48,7 @@ pub record UnnotedBut (g₀ g : List ℕ) (s : ℕ) : Type 0 where
 
 -- no growth is noted
 abbrev pub NoneGrown : List ℕ → Type 0
-NoneGrown g = (s : ℕ) → s < 256 → getD g s 0 ≡ 0
+NoneGrown g = (s : ℕ) → s < stateRows → getD g s 0 ≡ 0
 
 -- state s of 256, counted from the other end where the turn is odd
 abbrev pub inTurn : ℕ → ℕ → ℕ

@@ -15,8 +15,8 @@ use Rattle.meaning.specs.Site.{Site}
 use Rattle.meaning.specs.Board.{free}
 use Rattle.meaning.proofs.BasicsLaws.{decide}
 use Rattle.search_ticks.specs.Bits.{odd, bit}
-use Rattle.search_ticks.specs.Rows.{has, ZeroFrom, Changed}
-use Rattle.search_free.specs.Frees.{rowsFree, freeBit, freeWord, freeTo}
+use Rattle.search_ticks.specs.Rows.{has, ZeroFrom, Changed, rowsFree}
+use Rattle.search_free.specs.Frees.{freeBit, freeWord, freeTo}
 use Rattle.search_ticks.proofs.BitLaws.{odd-of, even-of, bit-past}
 use Rattle.search_ticks.proofs.RowLaws.{empty-row, mapRow, map-turn}
 use Rattle.search_ticks.proofs.SetLaws.{row-changed}

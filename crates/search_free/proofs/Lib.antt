@@ -1,2 +1,1 @@
-pub mod RunLaws
 pub mod FreeLaws

@@ -16,10 +16,9 @@ use Rattle.meaning.specs.Board.{Free}
 use Rattle.meaning.specs.Plan.{freeFromTo, sweepsFree}
 use Rattle.meaning.proofs.BasicsLaws.{decide}
 use Rattle.search_ticks.specs.Bits.{bit}
-use Rattle.search_ticks.specs.Rows.{has, Changed}
+use Rattle.search_ticks.specs.Rows.{has, Changed, rowsFree}
 use Rattle.search_ticks.proofs.BitLaws.{odd-of}
 use Rattle.search_ticks.proofs.RowLaws.{has-is}
-use Rattle.search_free.specs.Frees.{rowsFree}
 use Rattle.site_sweeps.specs.declared.Sweep as Read
 use Rattle.site_sweeps.specs.Places.{sweepAt, sweepsAt, SweepIs}
 use Rattle.site_sweeps.proofs.Laws.{sweeps-none, sweeps-next}

@@ -1,2 +1,2 @@
 pub mod AllowLaws
-pub mod RightLaws
+pub mod LeastLaws

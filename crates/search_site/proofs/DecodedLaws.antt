@@ -11,6 +11,7 @@ use Rattle.meaning.specs.WellFormed.{WellFormed}
 use Rattle.meaning.proofs.BasicsLaws.{each-at}
 use Rattle.meaning.proofs.SiteLaws.{read-well, read-passes}
 use Rattle.meaning.proofs.MotionLaws.{good-at, cell-known}
+use Rattle.search_sizes.specs.Sizes.{stateNumbers, motionNumbers}
 use Rattle.site_sweeps.specs.Places.{sweepAt}
 use Rattle.site_sweeps.proofs.Laws.{sweeps-length, sweeps-at}
 use Rattle.site.specs.declared.Motion as ReadMotion
@@ -63,7 +64,7 @@ module _ (file : List ℕ) (e : readSite file ≡ accepted (siteOf file)) where
   -- ---- the arrays
 
   module _ (st : List ℕ) (held : StatesDecoded file st) where
-    pub states-fit : (n : ℕ) → n ≡ length (site .states) → 512 ≤ length st → States n st
+    pub states-fit : (n : ℕ) → n ≡ length (site .states) → stateNumbers ≤ length st → States n st
     states-fit n p l =
         let few = well .states-range .1 in
         let cells = well .cells-range .1 in
@@ -77,7 +78,7 @@ module _ (file : List ℕ) (e : readSite file ≡ accepted (siteOf file)) where
         }
 
   module _ (mv : List ℕ) (held : MotionsDecoded file mv) where
-    pub motions-fit : (k : ℕ) → k ≡ length (site .motions) → 10000 ≤ length mv → Motions k mv
+    pub motions-fit : (k : ℕ) → k ≡ length (site .motions) → motionNumbers ≤ length mv → Motions k mv
     motions-fit k p l =
         let few = well .motions-range in
         let states = well .states-range .1 in

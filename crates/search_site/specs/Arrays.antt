@@ -4,6 +4,7 @@
 use Prim.Native.Nat.{ℕ, _+_, _*_, _≤_, _<_}
 use mathlib.Core.List.{List}
 use lib.ListN.{length, getD}
+use Rattle.search_sizes.specs.Sizes.{cellRows, stateRows, motionRows}
 
 abbrev pub cellAt : List ℕ → ℕ → ℕ
 cellAt st s = getD st (s * 2) 0
@@ -29,13 +30,13 @@ countAt mv m = getD mv (m * 5 + 4) 0
 -- ---- what keeps each index in range
 
 pub record States (n : ℕ) (st : List ℕ) : Type 0 where
-  pub few : n ≤ 256
+  pub few : n ≤ stateRows
   pub long : n * 2 ≤ length st
-  pub cell : (s : ℕ) → s < n → cellAt st s < 256
+  pub cell : (s : ℕ) → s < n → cellAt st s < cellRows
 
 pub record Motions (k : ℕ) (mv : List ℕ) : Type 0 where
-  pub few : k ≤ 2000
+  pub few : k ≤ motionRows
   pub long : k * 5 ≤ length mv
-  pub from : (m : ℕ) → m < k → fromAt mv m < 256
-  pub to : (m : ℕ) → m < k → toAt mv m < 256
+  pub from : (m : ℕ) → m < k → fromAt mv m < stateRows
+  pub to : (m : ℕ) → m < k → toAt mv m < stateRows
   pub span : (m : ℕ) → m < k → (1 ≤ spanAt mv m) × (spanAt mv m ≤ 255)

@@ -1,10 +1,13 @@
 // The site file in arrays of numbers, as the search takes it: two numbers a state, five a motion. The sweeps stay in the file.
+use search_sizes::MOTION_NUMBERS;
+use search_sizes::STATE_NUMBERS;
 use site::Motion;
 ghost use mathlib.Core.Path.{_≡_};
 ghost use Prim.Native.Nat.{_*_, _<_};
 ghost use lib.ListN.{length};
 ghost use Rattle.meaning.specs.Answers.{accepted};
 ghost use Rattle.meaning.specs.Site.{siteOf, readSite};
+ghost use Rattle.search_sizes.specs.Sizes.{stateRows, motionRows};
 ghost use Rattle.site_layout.specs.Laid.{statePlace};
 ghost use Rattle.search_site.specs.Arrays.{States, Motions, cellAt, speedAt, fromAt, toAt, spanAt, placeAt, countAt};
 ghost use Rattle.search_site.specs.Decoded.{StatesDecoded, setTwo, FitsU16, setMotion, MotionsDecoded};
@@ -79,8 +82,8 @@ pub fn count_of(moves: &[u16], k: usize, m: usize) -> usize
 // ---- the arrays, from the file
 
 // Writes the two numbers of the state s.
-fn put_state(states: &mut [u16; 512], s: usize, cell: usize, speed: u8)
-    requires { ⌜ (s < 256) × (cell < 65536) ⌝ }
+fn put_state(states: &mut [u16; STATE_NUMBERS], s: usize, cell: usize, speed: u8)
+    requires { ⌜ (s < stateRows) × (cell < 65536) ⌝ }
     ensures { λ _. ⌜ now (states .exit) ≡ setTwo (now (states .entry)) (s * 2) cell speed ⌝ }
 {
     states[s * 2] = cell as u16;
@@ -88,11 +91,11 @@ fn put_state(states: &mut [u16; 512], s: usize, cell: usize, speed: u8)
 }
 
 // The cell and the speed of each of the `count` states.
-pub fn decode_states(file: &[u8], count: usize) -> [u16; 512]
+pub fn decode_states(file: &[u8], count: usize) -> [u16; STATE_NUMBERS]
     requires { ⌜ (readSite (now file) ≡ accepted (siteOf (now file))) × (count ≡ length (siteOf (now file) .states)) ⌝ }
     ensures { λ r. ⌜ StatesDecoded (now (file .entry)) r ⌝ }
 {
-    let mut states = [0u16; 512];
+    let mut states = [0u16; STATE_NUMBERS];
     let mut s = 0;
     while s < count {
         let cell = site::state_cell(file, s);
@@ -104,8 +107,8 @@ pub fn decode_states(file: &[u8], count: usize) -> [u16; 512]
 }
 
 // Writes the five numbers of the motion m.
-fn put_move(moves: &mut [u16; 10000], m: usize, r: Motion)
-    requires { ⌜ (m < 2000) × FitsU16 r ⌝ }
+fn put_move(moves: &mut [u16; MOTION_NUMBERS], m: usize, r: Motion)
+    requires { ⌜ (m < motionRows) × FitsU16 r ⌝ }
     ensures { λ _. ⌜ now (moves .exit) ≡ setMotion (now (moves .entry)) (m * 5) r ⌝ }
 {
     moves[m * 5] = r.from as u16;
@@ -116,13 +119,13 @@ fn put_move(moves: &mut [u16; 10000], m: usize, r: Motion)
 }
 
 // From, to, span, place and number of sweeps of each of the `count` motions, which start at `start`.
-pub fn decode_moves(file: &[u8], start: usize, count: usize) -> [u16; 10000]
+pub fn decode_moves(file: &[u8], start: usize, count: usize) -> [u16; MOTION_NUMBERS]
     requires { ⌜ (readSite (now file) ≡ accepted (siteOf (now file))) × (start ≡ statePlace (length (siteOf (now file) .states))) ⌝ }
     requires { ⌜ count ≡ length (siteOf (now file) .motions) ⌝ }
     ensures { λ r. ⌜ MotionsDecoded (now (file .entry)) r ⌝ }
 {
     let index = site::motion_index(file, start);
-    let mut moves = [0u16; 10000];
+    let mut moves = [0u16; MOTION_NUMBERS];
     let mut m = 0;
     while m < count {
         put_move(&mut moves, m, site::motion_at(file, &index, m));

@@ -5,6 +5,7 @@ use mathlib.Core.Path.{_≡_}
 use mathlib.Core.Bool.{Bool, true, false}
 use mathlib.Core.List.{List}
 use lib.ListN.{length}
+use Rattle.search_sizes.specs.Sizes.{rowTicks}
 use Rattle.search_ticks.specs.Rows.{has, Grown}
 use Rattle.search_site.specs.Arrays.{cellAt, speedAt, fromAt, toAt, spanAt}
 
@@ -16,12 +17,12 @@ Pairs = ℕ → ℕ → Bool
 abbrev pub WaitClosed : List ℕ → List ℕ → ℕ → Pairs → Type 0
 WaitClosed st fr s R =
     speedAt st s ≡ 0
-    → (t : ℕ) → suc t < 1024 → R s t ≡ true → has fr (cellAt st s) t ≡ true → has fr (cellAt st s) (suc t) ≡ true → R s (suc t) ≡ true
+    → (t : ℕ) → suc t < rowTicks → R s t ≡ true → has fr (cellAt st s) t ≡ true → has fr (cellAt st s) (suc t) ≡ true → R s (suc t) ≡ true
 
 -- and so does motion m, if it may begin
 abbrev pub MoveClosed : List ℕ → List ℕ → ℕ → Pairs → Type 0
 MoveClosed mv al m R =
-    (t : ℕ) → t + spanAt mv m < 1024 → R (fromAt mv m) t ≡ true → has al m t ≡ true → R (toAt mv m) (t + spanAt mv m) ≡ true
+    (t : ℕ) → t + spanAt mv m < rowTicks → R (fromAt mv m) t ≡ true → has al m t ≡ true → R (toAt mv m) (t + spanAt mv m) ≡ true
 
 -- for each number below n
 abbrev pub Below : (ℕ → Pairs → Type 0) → ℕ → Pairs → Type 0
@@ -32,7 +33,7 @@ abbrev pub Closed : ℕ → ℕ → List ℕ → List ℕ → List ℕ → List 
 Closed n k st mv fr al R = Below (WaitClosed st fr) n R × Below (MoveClosed mv al) k R
 
 abbrev pub Inside : List ℕ → Pairs → Type 0
-Inside l R = (s t : ℕ) → t < 1024 → has l s t ≡ true → R s t ≡ true
+Inside l R = (s t : ℕ) → t < rowTicks → has l s t ≡ true → R s t ≡ true
 
 -- A step has set some bits, whose number d is 0 if there were none to set: it stays inside every closed set that it began in,
 -- it loses nothing, and where it sets nothing the set is closed.
@@ -45,12 +46,12 @@ pub record Step (C : Pairs → Type 0) (l₀ l : List ℕ) (d : ℕ) : Type 0 wh
 -- what the waits in s leave: they are closed, and the other rows are as they were
 pub record Waited (st fr : List ℕ) (s : ℕ) (l₀ l : List ℕ) : Type 0 where
   pub closed : WaitClosed st fr s (has l)
-  pub others : (x t : ℕ) → (x ≡ s → ⊥) → t < 1024 → has l x t ≡ has l₀ x t
+  pub others : (x t : ℕ) → (x ≡ s → ⊥) → t < rowTicks → has l x t ≡ has l₀ x t
 
 -- what motion m leaves: it is closed, if it leads to another state
 pub record Moved (mv al : List ℕ) (m : ℕ) (l₀ l : List ℕ) : Type 0 where
   pub closed : (fromAt mv m ≡ toAt mv m → ⊥) → MoveClosed mv al m (has l)
-  pub others : (x t : ℕ) → (x ≡ toAt mv m → ⊥) → t < 1024 → has l x t ≡ has l₀ x t
+  pub others : (x t : ℕ) → (x ≡ toAt mv m → ⊥) → t < rowTicks → has l x t ≡ has l₀ x t
 
 -- some steps: what they set stays inside every closed set that they began in, and they lose nothing
 pub record Going (C : Pairs → Type 0) (l₀ l : List ℕ) : Type 0 where
@@ -73,4 +74,4 @@ pub record Least (C : Pairs → Type 0) (s t : ℕ) (l : List ℕ) : Type 0 wher
 -- that set if the start's cell is free, and else nothing
 pub record Explored (C : Pairs → Type 0) (fr : List ℕ) (c s t : ℕ) (l : List ℕ) : Type 0 where
   pub found : has fr c t ≡ true → Least C s t l
-  pub nothing : has fr c t ≡ false → (x u : ℕ) → u < 1024 → has l x u ≡ false
+  pub nothing : has fr c t ≡ false → (x u : ℕ) → u < rowTicks → has l x u ≡ false

@@ -1,13 +1,14 @@
 // What one wait and one motion set of the pairs of state and tick.
 ghost use Prim.Native.Nat.{_*_, _≤_, _<_};
 ghost use lib.ListN.{length};
+ghost use Rattle.search_sizes.specs.Sizes.{rowWords, freeWords, reachedWords};
 ghost use Rattle.search_site.specs.Arrays.{States, Motions};
 ghost use Rattle.search_step.specs.Sets.{WaitClosed, MoveClosed, Step, Waited, Moved};
 
 // Sets what waits in state s reach. Answers 0 where nothing was new.
 pub fn wait_one(states: &[u16], frees: &[u64], reached: &mut [u64], n: usize, s: usize) -> u64
     requires { ⌜ States n (now states) × (s < n) ⌝ }
-    requires { ⌜ (4096 ≤ length (now frees)) × (4096 ≤ length (now reached)) ⌝ }
+    requires { ⌜ (freeWords ≤ length (now frees)) × (reachedWords ≤ length (now reached)) ⌝ }
     ensures { λ d. ⌜ Step (WaitClosed (now (states .entry)) (now (frees .entry)) s) (now (reached .entry)) (now (reached .exit)) d ⌝ }
     ensures { λ _. ⌜ Waited (now (states .entry)) (now (frees .entry)) s (now (reached .entry)) (now (reached .exit)) ⌝ }
 {
@@ -21,7 +22,7 @@ pub fn wait_one(states: &[u16], frees: &[u64], reached: &mut [u64], n: usize, s:
 // Sets what motion m reaches. Answers 0 where nothing was new.
 pub fn move_one(moves: &[u16], allowed: &[u64], reached: &mut [u64], k: usize, m: usize) -> u64
     requires { ⌜ Motions k (now moves) × (m < k) ⌝ }
-    requires { ⌜ (k * 16 ≤ length (now allowed)) × (4096 ≤ length (now reached)) ⌝ }
+    requires { ⌜ (k * rowWords ≤ length (now allowed)) × (reachedWords ≤ length (now reached)) ⌝ }
     ensures { λ d. ⌜ Step (MoveClosed (now (moves .entry)) (now (allowed .entry)) m) (now (reached .entry)) (now (reached .exit)) d ⌝ }
     ensures { λ _. ⌜ Moved (now (moves .entry)) (now (allowed .entry)) m (now (reached .entry)) (now (reached .exit)) ⌝ }
 {

@@ -5,8 +5,10 @@ use Prim.Native.Nat.{ℕ, zero, suc, _+_, _-_, _*_, _/_, _%_, _^_, _<_}
 use mathlib.Core.Path.{_≡_}
 use mathlib.Core.Bool.{Bool, false, _&&_, _||_}
 use mathlib.Core.List.{List, [], _∷_}
-use lib.Dec.{eqb}
+use lib.Dec.{ltb, eqb}
 use lib.ListN.{length, getD}
+use Rattle.meaning.specs.Board.{Free}
+use Rattle.search_sizes.specs.Sizes.{rowTicks}
 use Rattle.search_ticks.specs.Bits.{bit}
 
 -- bit j of a list of words
@@ -15,7 +17,11 @@ at l j = bit (getD l (j / 64) 0) (j % 64)
 
 -- tick t is in row s
 unfoldable pub has : List ℕ → ℕ → ℕ → Bool
-has l s t = at l (s * 1024 + t)
+has l s t = at l (s * rowTicks + t)
+
+-- the rows as a test of cells and ticks: no tick above 1023 is in a row
+unfoldable pub rowsFree : List ℕ → Free
+rowsFree l c t = ltb t rowTicks && has l c t
 
 abbrev pub Words : List ℕ → Type 0
 Words l = (i : ℕ) → getD l i 0 < 2 ^ 64
@@ -40,15 +46,15 @@ pub record Grown (l₀ l : List ℕ) (d : ℕ) : Type 0 where
 
 -- row s has the ticks that the test says, and the other rows are as before
 pub record Changed (l₀ l : List ℕ) (s : ℕ) (test : ℕ → Bool) : Type 0 where
-  pub here : (t : ℕ) → t < 1024 → has l s t ≡ test t
-  pub others : (x t : ℕ) → (x ≡ s → ⊥) → t < 1024 → has l x t ≡ has l₀ x t
+  pub here : (t : ℕ) → t < rowTicks → has l s t ≡ test t
+  pub others : (x t : ℕ) → (x ≡ s → ⊥) → t < rowTicks → has l x t ≡ has l₀ x t
   pub sized : length l ≡ length l₀
 
 -- the ticks that row s of l and row m of k share, behind 256 ticks that are in neither
 pub record Met (l k : List ℕ) (s m : ℕ) (x : List ℕ) : Type 0 where
   pub fits : Words x
   pub early : (j : ℕ) → j < 256 → at x j ≡ false
-  pub late : (t : ℕ) → t < 1024 → at x (256 + t) ≡ has l s t && has k m t
+  pub late : (t : ℕ) → t < rowTicks → at x (256 + t) ≡ has l s t && has k m t
 
 -- in the set, or one of x's that is span ticks earlier
 abbrev pub pushed : List ℕ → List ℕ → ℕ → ℕ → ℕ → Bool

@@ -1,4 +1,4 @@
 pub mod FoundLaws
-pub mod GoingLaws
+pub mod LoopLaws
 pub mod StackLaws
 pub mod TurnLaws

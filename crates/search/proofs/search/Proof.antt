@@ -8,7 +8,7 @@ use lib.ListN.{length}
 use Rattle.site.specs.declared.Sizes.{Sizes}
 use Rattle.search_site.specs.Arrays.{States, Motions}
 use Rattle.search_reach.proofs.AllowLaws.{ones-full, ones-long}
-use Rattle.search.proofs.Laws.{Ranges, SetsOn, ranges, same-states, board-fits, states-in, motions-in, sweeps-in, sets-in, missing, found, planned}
+use Rattle.search.proofs.PartsLaws.{Ranges, SetsOn, ranges, same-states, board-fits, states-in, motions-in, sweeps-in, sets-in, missing, found, planned}
 use Rattle.search.proofs.search.Statement.{statement}
 use Rattle.search.proofs.search.Tie as tie
 

@@ -7,7 +7,7 @@ use lib.ListN.{length, length-set}
 use Rattle.search_step.specs.Sets.{MoveClosed, Below, Going}
 use Rattle.search_fixpoint.specs.Spread.{Noted, Progress, Unnoted}
 use Rattle.search_fixpoint.proofs.ListLaws.{Walked, noted-start, noted-more, walked-start, walked-more, walked-last, walked-end, listed-from}
-use Rattle.search_fixpoint.proofs.GoingLaws.{going-start, going-one}
+use Rattle.search_fixpoint.proofs.StepsLaws.{going-start, going-one}
 use Rattle.search_fixpoint.proofs.ProgressLaws.{progress-none, progress-then, progress-move}
 use Rattle.search_fixpoint.proofs.move_from.Statement.{statement}
 use Rattle.search_fixpoint.proofs.move_from.Tie as tie

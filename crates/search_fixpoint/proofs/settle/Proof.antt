@@ -6,7 +6,7 @@ use lib.ListN.{length, length-replicate}
 use Rattle.search_ticks.specs.Rows.{has}
 use Rattle.search_step.specs.Sets.{Closed, Going}
 use Rattle.search_fixpoint.specs.Spread.{Tried}
-use Rattle.search_fixpoint.proofs.GoingLaws.{going-start, going-then}
+use Rattle.search_fixpoint.proofs.StepsLaws.{going-start, going-then}
 use Rattle.search_fixpoint.proofs.ListLaws.{tried-start, tried-closed}
 use Rattle.search_fixpoint.proofs.ProgressLaws.{left, turn-less}
 use borrow.Author.Needs.{needs}

@@ -6,7 +6,7 @@ use lib.ListN.{length}
 use Rattle.search_ticks.specs.Rows.{has}
 use Rattle.search_step.specs.Sets.{Closed, Going}
 use Rattle.search_fixpoint.specs.Spread.{Listed, Tried, Progress}
-use Rattle.search_fixpoint.proofs.GoingLaws.{going-start, going-then}
+use Rattle.search_fixpoint.proofs.StepsLaws.{going-start, going-then}
 use Rattle.search_fixpoint.proofs.ProgressLaws.{progress-none, progress-then, progress-map, Quiet, quiet-more, quiet-all}
 use borrow.Author.Needs.{needs}
 use native.Mathlib.Omega.{arith}

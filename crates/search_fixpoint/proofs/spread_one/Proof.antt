@@ -2,7 +2,7 @@
 -- Assumes nothing.
 use mathlib.Core.Path.{refl}
 use lib.ListN.{length-set}
-use Rattle.search_fixpoint.proofs.GoingLaws.{going-start, going-both}
+use Rattle.search_fixpoint.proofs.StepsLaws.{going-start, going-both}
 use Rattle.search_fixpoint.proofs.ProgressLaws.{progress-none, progress-then, cleared, cleared-then}
 use Rattle.search_fixpoint.proofs.ListLaws.{tried-empty, tried-state}
 use native.Mathlib.Omega.{arith}
@@ -25,8 +25,8 @@ mul-grown c = search needs
 element-write-grown : tie.Need-element-write-grown
 element-write-grown c = search needs
 
-bits-requires : tie.Need-bits-requires
-bits-requires c κs = search needs
+row-union-requires : tie.Need-row-union-requires
+row-union-requires c κs = search needs
 
 same-length : tie.Need-same-length
 same-length c = search needs
@@ -39,7 +39,7 @@ returns-2 c =
       (
         simp length-set (start .pre .0 .1 .1 .1),
         (
-          λ all. tried-empty (a .n) (a .k) (a .states .now) (a .moves .now) (a .frees .now) (a .allowed .now) (a .grown .now) (a .reached .now) (a .s) (start .pre .0 .1 .1 .1) (c .before .bits .ensures (c .if2 .taken)),
+          λ all. tried-empty (a .n) (a .k) (a .states .now) (a .moves .now) (a .frees .now) (a .allowed .now) (a .grown .now) (a .reached .now) (a .s) (start .pre .0 .1 .1 .1) (c .before .row-union .ensures (c .if2 .taken)),
           progress-none _ (cleared (a .grown .now) (a .s) (omega (arith, start .pre .0 .1 .1 .0, start .pre .0 .1 .1 .1))),
         ),
       ),
@@ -82,7 +82,7 @@ spread-one-spec =
     returns
     mul-grown
     element-write-grown
-    bits-requires
+    row-union-requires
     same-length
     returns-2
     wait-in-requires

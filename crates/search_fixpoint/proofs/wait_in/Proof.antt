@@ -2,7 +2,7 @@
 -- Assumes nothing.
 use mathlib.Core.Path.{refl}
 use Rattle.search_step.specs.Sets.{WaitClosed}
-use Rattle.search_fixpoint.proofs.GoingLaws.{going-start, going-one}
+use Rattle.search_fixpoint.proofs.StepsLaws.{going-start, going-one}
 use Rattle.search_fixpoint.proofs.ProgressLaws.{progress-none, progress-grown, progress-map}
 use native.Mathlib.Omega.{arith}
 use borrow.Author.Needs.{needs}

@@ -12,13 +12,13 @@ free-bits-requires c κs = search needs
 returns : tie.Need-returns
 returns c = search needs
 
-held-bits-requires : tie.Need-held-bits-requires
-held-bits-requires c κs = search needs
+bytes-union-requires : tie.Need-bytes-union-requires
+bytes-union-requires c κs = search needs
 
 returns-2 : tie.Need-returns-2
 returns-2 c =
     let a = c .before .before .before .before .args in
-    zero-full (a .board .now) (a .start) (a .n) (omega arith) (omega arith) (c .before .held-bits .ensures (c .if2 .taken))
+    zero-full (a .board .now) (a .start) (a .n) (omega arith) (omega arith) (c .before .bytes-union .ensures (c .if2 .taken))
 
 free-bits-requires-2 : tie.Need-free-bits-requires-2
 free-bits-requires-2 c κs = search needs
@@ -29,4 +29,4 @@ returns-3 c = search needs
 pub free-word-spec : {M : Type 1} → statement M
 free-word-spec =
     tie.close
-    (tie.spec free-bits-requires returns held-bits-requires returns-2 free-bits-requires-2 returns-3)
+    (tie.spec free-bits-requires returns bytes-union-requires returns-2 free-bits-requires-2 returns-3)

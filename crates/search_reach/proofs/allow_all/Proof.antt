@@ -5,7 +5,7 @@ use native.Mathlib.Omega.{arith}
 use mathlib.Core.Path.{_≡_, refl, _∙_}
 use lib.ListN.{length}
 use borrow.Author.Needs.{needs}
-use Rattle.search_free.proofs.RunLaws.{blank}
+use Rattle.search_runs.proofs.RunLaws.{blank}
 use Rattle.search_reach.proofs.AllowLaws.{Allowing, allowing-start, allowing-turn, allowing-end}
 use Rattle.search_reach.proofs.allow_all.Statement.{statement}
 use Rattle.search_reach.proofs.allow_all.Tie as tie

@@ -7,7 +7,8 @@ use borrow.Author.Needs.{needs}
 use native.Mathlib.Omega.{arith}
 use lib.ListN.{length}
 use Rattle.meaning.specs.Site.{Sweep}
-use Rattle.search_free.specs.Frees.{rowsFree, Runs}
+use Rattle.search_ticks.specs.Rows.{rowsFree}
+use Rattle.search_runs.specs.Runs.{Runs}
 use Rattle.search_reach.proofs.AllowLaws.{Narrowing, narrowing-start, narrowing-turn, narrowing-end}
 use Rattle.search_reach.proofs.allow_one.Statement.{statement}
 use Rattle.search_reach.proofs.allow_one.Tie as tie

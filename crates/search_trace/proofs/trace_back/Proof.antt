@@ -3,7 +3,7 @@
 use Prim.Native.Nat.{_-_, _<_}
 use Rattle.light_write.specs.Codes.{stepsIn}
 use Rattle.light_write.proofs.CodeLaws.{length-steps}
-use Rattle.search_trace.proofs.GoingLaws.{Going, Motion, going-first, going-wait, going-motion, going-move, going-done}
+use Rattle.search_trace.proofs.LoopLaws.{Going, Motion, going-first, going-wait, going-motion, going-move, going-done}
 use native.Mathlib.Omega.{arith}
 use Rattle.search_trace.proofs.trace_back.Statement.{statement}
 use Rattle.search_trace.proofs.trace_back.Tie as tie

@@ -18,7 +18,7 @@ use Rattle.meaning.proofs.LightLaws.{length-encode}
 use Rattle.meaning.proofs.TraceLaws.{found-steps}
 use Rattle.meaning.specs.Plan.{node}
 use Rattle.site.specs.declared.Sizes.{Sizes}
-use Rattle.search_free.specs.Frees.{rowsFree}
+use Rattle.search_ticks.specs.Rows.{rowsFree}
 use Rattle.search_site.specs.Arrays.{cellAt, States, Motions}
 use Rattle.search_step.specs.Sets.{Closed, Explored}
 use Rattle.search_reach.specs.Reached.{Starts, ReachedRows}
@@ -31,7 +31,7 @@ use Rattle.search_trace.specs.Turns.{Search, Found}
 use Rattle.search_trace.proofs.FoundLaws.{routeAfter, route-there, route-nowhere, arrival-found}
 use Rattle.search_site.specs.Decoded.{Sweeps, StatesDecoded, MotionsDecoded}
 use Rattle.search_site.proofs.DecodedLaws.{well, states-fit, motions-fit, sweeps-fit, decoded}
-use Rattle.search.specs.declared.Plan.the-variants.{Steps, Missing}
+use Rattle.search.specs.declared.Traced.the-variants.{Steps, Missing}
 use Rattle.search.specs.declared.Found.the-variants as Answer
 use Rattle.search.specs.Finds.{Asked, routeOn, lightOn, Planned, foundOf, outOf}
 

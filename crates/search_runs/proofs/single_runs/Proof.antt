@@ -1,12 +1,12 @@
--- `search_free::single_runs` meets its contract: the rows below c are done.
+-- `search_runs::single_runs` meets its contract: the rows below c are done.
 -- Assumes nothing.
 use Prim.Native.Nat.{_-_, _≤_}
-use Rattle.search_free.specs.Frees.{Runs}
-use Rattle.search_free.proofs.RunLaws.{runs-none, runs-single, runs-all}
+use Rattle.search_runs.specs.Runs.{Runs}
+use Rattle.search_runs.proofs.RunLaws.{runs-none, runs-single, runs-all}
 use borrow.Author.Needs.{needs}
 use native.Mathlib.Omega.{arith}
-use Rattle.search_free.proofs.single_runs.Statement.{statement}
-use Rattle.search_free.proofs.single_runs.Tie as tie
+use Rattle.search_runs.proofs.single_runs.Statement.{statement}
+use Rattle.search_runs.proofs.single_runs.Tie as tie
 
 abbrev Inv-loop : tie.InvT-loop
 Inv-loop runs₀ f c₀ runs c = (c ≤ 256) × Runs f runs c

@@ -19,8 +19,7 @@ use Rattle.meaning.proofs.BasicsLaws.{decide, and-left, and-right, every-at, ev
 use Rattle.meaning.proofs.ReachLaws.{span-pos, move-known, move-ends, wait-ends, Came, at-start, by-wait, by-move, came-here, reached-start, reached-state, reached-wait, reached-move}
 use Rattle.meaning.proofs.TraceLaws.{reached-pair}
 use Rattle.meaning.proofs.MotionLaws.{good-at}
-use Rattle.search_ticks.specs.Rows.{has}
-use Rattle.search_free.specs.Frees.{rowsFree}
+use Rattle.search_ticks.specs.Rows.{has, rowsFree}
 use Rattle.search_site.specs.Decoded.{Decoded}
 use Rattle.search_reach.specs.Reached.{Starts, reachedAt}
 use Rattle.search_site.specs.Arrays.{cellAt, fromAt}

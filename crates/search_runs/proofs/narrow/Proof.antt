@@ -1,14 +1,14 @@
--- `search_free::narrow` meets its contract: what is left of the loop gives the whole row.
+-- `search_runs::narrow` meets its contract: what is left of the loop gives the whole row.
 -- Assumes nothing.
 use Prim.Native.Nat.{_-_, _≤_}
 use mathlib.Core.Path.{_≡_, refl}
 use lib.ListN.{length, length-set}
 use Rattle.search_ticks.proofs.RowLaws.{mapRow, map-end}
-use Rattle.search_free.proofs.RunLaws.{narrowWord, narrow-turn, narrow-done}
+use Rattle.search_runs.proofs.RunLaws.{narrowWord, narrow-turn, narrow-done}
 use borrow.Author.Needs.{needs}
 use native.Mathlib.Omega.{arith}
-use Rattle.search_free.proofs.narrow.Statement.{statement}
-use Rattle.search_free.proofs.narrow.Tie as tie
+use Rattle.search_runs.proofs.narrow.Statement.{statement}
+use Rattle.search_runs.proofs.narrow.Tie as tie
 
 abbrev Inv-loop : tie.InvT-loop
 Inv-loop k₀ runs m r later a b d i₀ k i = (i ≤ 16) × ((length k ≡ length k₀) × (mapRow (narrowWord runs b d) a (16 - i) i k ≡ mapRow (narrowWord runs b d) a 16 0 k₀))

@@ -1,4 +1,4 @@
--- `search_free::held_bits` meets its contract: where no bit is set, each byte below i is 0.
+-- `search_free::bytes_union` meets its contract: where no bit is set, each byte below i is 0.
 -- Assumes nothing.
 use Prim.Native.Nat.{_-_, _≤_}
 use mathlib.Core.Path.{_≡_}
@@ -7,8 +7,8 @@ use Rattle.search_ticks.proofs.SetLaws.{zeros-none, zeros-more}
 use Rattle.search_free.proofs.FreeLaws.{zero-all}
 use borrow.Author.Needs.{needs}
 use native.Mathlib.Omega.{arith}
-use Rattle.search_free.proofs.held_bits.Statement.{statement}
-use Rattle.search_free.proofs.held_bits.Tie as tie
+use Rattle.search_free.proofs.bytes_union.Statement.{statement}
+use Rattle.search_free.proofs.bytes_union.Tie as tie
 
 abbrev Inv-loop : tie.InvT-loop
 Inv-loop board start all₀ i₀ all i = (i ≤ 64) × (all ≡ 0 → ZeroFrom board start i)
@@ -43,8 +43,8 @@ returns c =
     let a = turn .before .args in
     zero-all (a .board .now) (a .start) (turn .loop .i) (turn .loop .all) (omega arith) (turn .loop .inv .1)
 
-pub held-bits-spec : {M : Type 1} → statement M
-held-bits-spec =
+pub bytes-union-spec : {M : Type 1} → statement M
+bytes-union-spec =
     tie.close
     (tie.spec
     Inv-loop

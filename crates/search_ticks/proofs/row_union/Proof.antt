@@ -1,12 +1,12 @@
--- `search_ticks::bits` meets its contract: where no bit is set, each word below i is 0.
+-- `search_ticks::row_union` meets its contract: where no bit is set, each word below i is 0.
 -- Assumes nothing.
 use Prim.Native.Nat.{_*_, _-_, _≤_}
 use mathlib.Core.Path.{_≡_}
 use native.Mathlib.Omega.{arith}
 use Rattle.search_ticks.proofs.SetLaws.{zeros-none, zeros-more, zeros-row}
 use Rattle.search_ticks.specs.Rows.{ZeroFrom}
-use Rattle.search_ticks.proofs.bits.Statement.{statement}
-use Rattle.search_ticks.proofs.bits.Tie as tie
+use Rattle.search_ticks.proofs.row_union.Statement.{statement}
+use Rattle.search_ticks.proofs.row_union.Tie as tie
 
 abbrev Inv-loop : tie.InvT-loop
 Inv-loop l s a all₀ i₀ all i = (i ≤ 16) × (all ≡ 0 → ZeroFrom l a i)
@@ -47,8 +47,8 @@ returns c =
     let a = turn .before .args in
     λ e. zeros-row (a .l .now) (a .s) (turn .loop .i) (omega arith) (turn .loop .inv .1 e)
 
-pub bits-spec : {M : Type 1} → statement M
-bits-spec =
+pub row-union-spec : {M : Type 1} → statement M
+row-union-spec =
     tie.close
     (tie.spec
     Inv-loop

@@ -1,11 +1,11 @@
--- `search_free::copy_row` meets its contract: the loop writes the row word by word.
+-- `search_runs::copy_row` meets its contract: the loop writes the row word by word.
 -- Assumes nothing.
 use Prim.Native.Nat.{_+_, _-_, _*_, _≤_}
-use Rattle.search_free.proofs.RunLaws.{Placing, placing-start, copyWord, copy-turn, copy-done}
+use Rattle.search_runs.proofs.RunLaws.{Placing, placing-start, copyWord, copy-turn, copy-done}
 use borrow.Author.Needs.{needs}
 use native.Mathlib.Omega.{arith}
-use Rattle.search_free.proofs.copy_row.Statement.{statement}
-use Rattle.search_free.proofs.copy_row.Tie as tie
+use Rattle.search_runs.proofs.copy_row.Statement.{statement}
+use Rattle.search_runs.proofs.copy_row.Tie as tie
 
 abbrev Inv-loop : tie.InvT-loop
 Inv-loop runs₀ f c a b i₀ runs i = (i ≤ 16) × Placing (copyWord f b) a runs₀ runs i

@@ -1,11 +1,11 @@
--- `search_free::double_row` meets its contract: the words that it reads stand before those that it writes.
+-- `search_runs::double_row` meets its contract: the words that it reads stand before those that it writes.
 -- Assumes nothing.
 use Prim.Native.Nat.{_-_, _≤_}
-use Rattle.search_free.proofs.RunLaws.{Placing, placing-start, twiceWord, twice-turn, twice-done}
+use Rattle.search_runs.proofs.RunLaws.{Placing, placing-start, twiceWord, twice-turn, twice-done}
 use borrow.Author.Needs.{needs}
 use native.Mathlib.Omega.{arith}
-use Rattle.search_free.proofs.double_row.Statement.{statement}
-use Rattle.search_free.proofs.double_row.Tie as tie
+use Rattle.search_runs.proofs.double_row.Statement.{statement}
+use Rattle.search_runs.proofs.double_row.Tie as tie
 
 abbrev Inv-loop : tie.InvT-loop
 Inv-loop runs₀ r k a b later i₀ runs i = (i ≤ 16) × Placing (twiceWord runs₀ b later) a runs₀ runs i

@@ -1,10 +1,10 @@
--- `search_free::size_of` meets its contract: by cases of the level.
+-- `search_runs::size_of` meets its contract: by cases of the level.
 -- Assumes nothing.
 use Prim.Native.Nat.{ℕ, _^_}
 use mathlib.Core.Path.{_≡_, sym, ap}
 use native.Mathlib.Omega.{arith}
-use Rattle.search_free.proofs.size_of.Statement.{statement}
-use Rattle.search_free.proofs.size_of.Tie as tie
+use Rattle.search_runs.proofs.size_of.Statement.{statement}
+use Rattle.search_runs.proofs.size_of.Tie as tie
 
 returns : tie.Need-returns
 returns c = let e : c .before .args .j ≡ 0 = omega arith in (sym (ap (λ (n : ℕ). 2 ^ n) e), (omega arith, omega arith))

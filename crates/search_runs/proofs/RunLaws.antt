@@ -16,8 +16,8 @@ use Rattle.meaning.specs.Basics.{allFrom}
 use Rattle.meaning.specs.Plan.{freeFromTo}
 use Rattle.meaning.proofs.BasicsLaws.{decide, and-left, and-right, same-test, allFrom-in, allFrom-true}
 use Rattle.search_ticks.specs.Bits.{bit, windowOf}
-use Rattle.search_ticks.specs.Rows.{at, has, Words, Changed}
-use Rattle.search_free.specs.Frees.{rowsFree, narrowed, twice, Blank, Placed, runOf, Runs}
+use Rattle.search_ticks.specs.Rows.{at, has, Words, Changed, rowsFree}
+use Rattle.search_runs.specs.Runs.{narrowed, twice, Blank, Placed, runOf, Runs}
 use Rattle.search_ticks.proofs.BitLaws.{bit-and}
 use Rattle.search_ticks.proofs.SetLaws.{row-changed}
 use Rattle.search_ticks.proofs.RowLaws.{zeros-at, zero-bit, zero-words, set-words, mapRow, map-bit, map-bit-before, map-bit-after, map-turn, map-end, window-at, has-is}

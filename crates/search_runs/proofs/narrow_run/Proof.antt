@@ -1,15 +1,15 @@
--- `search_free::narrow_run` meets its contract: up to the tick `at` the cell is free.
+-- `search_runs::narrow_run` meets its contract: up to the tick `at` the cell is free.
 -- Assumes nothing.
 use Prim.Native.Nat.{ℕ, _+_, _-_, _≤_}
 use mathlib.Core.Path.{_≡_, refl, _∙_}
 use mathlib.Core.List.{List}
 use lib.ListN.{length}
-use Rattle.search_free.specs.Frees.{Runs}
-use Rattle.search_free.proofs.RunLaws.{Swept, swept-none, swept-more, swept-done}
+use Rattle.search_runs.specs.Runs.{Runs}
+use Rattle.search_runs.proofs.RunLaws.{Swept, swept-none, swept-more, swept-done}
 use borrow.Author.Needs.{needs}
 use native.Mathlib.Omega.{arith}
-use Rattle.search_free.proofs.narrow_run.Statement.{statement}
-use Rattle.search_free.proofs.narrow_run.Tie as tie
+use Rattle.search_runs.proofs.narrow_run.Statement.{statement}
+use Rattle.search_runs.proofs.narrow_run.Tie as tie
 
 abbrev Inv-loop : tie.InvT-loop
 Inv-loop k₀ runs m c first last level size row at₀ k at = ((first ≤ at) × (at ≤ last)) × ((length k ≡ length k₀) × ((f : List ℕ) → Runs f runs 1280 → Swept f k₀ k m c first (at - first)))

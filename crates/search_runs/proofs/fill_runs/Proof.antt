@@ -1,12 +1,12 @@
--- `search_free::fill_runs` meets its contract: the rows below r + 256 are done.
+-- `search_runs::fill_runs` meets its contract: the rows below r + 256 are done.
 -- Assumes nothing.
 use Prim.Native.Nat.{_+_, _-_, _≤_}
-use Rattle.search_free.specs.Frees.{Runs}
-use Rattle.search_free.proofs.RunLaws.{runs-double, runs-all}
+use Rattle.search_runs.specs.Runs.{Runs}
+use Rattle.search_runs.proofs.RunLaws.{runs-double, runs-all}
 use borrow.Author.Needs.{needs}
 use native.Mathlib.Omega.{arith}
-use Rattle.search_free.proofs.fill_runs.Statement.{statement}
-use Rattle.search_free.proofs.fill_runs.Tie as tie
+use Rattle.search_runs.proofs.fill_runs.Statement.{statement}
+use Rattle.search_runs.proofs.fill_runs.Tie as tie
 
 abbrev Inv-loop : tie.InvT-loop
 Inv-loop runs₀ f r₀ runs r = (r ≤ 1024) × Runs f runs (r + 256)

@@ -1,0 +1,52 @@
+-- The sizes of the search's tables, as clauses name them.
+-- Assumes nothing.
+use Prim.Native.Nat.{ℕ}
+
+-- words and ticks of a row
+abbrev pub rowWords : ℕ
+rowWords = 16
+
+abbrev pub rowTicks : ℕ
+rowTicks = 1024
+
+-- rows of cells, states and motions
+abbrev pub cellRows : ℕ
+cellRows = 256
+
+abbrev pub stateRows : ℕ
+stateRows = 256
+
+abbrev pub motionRows : ℕ
+motionRows = 2000
+
+-- words of the free ticks, and of the reached pairs
+abbrev pub freeWords : ℕ
+freeWords = 4096
+
+abbrev pub reachedWords : ℕ
+reachedWords = 4096
+
+-- numbers of the states, two each, and of the motions, five each
+abbrev pub stateNumbers : ℕ
+stateNumbers = 512
+
+abbrev pub motionNumbers : ℕ
+motionNumbers = 10000
+
+-- rows of one level of runs, of all levels, and their words
+abbrev pub levelRows : ℕ
+levelRows = 256
+
+abbrev pub runRows : ℕ
+runRows = 1280
+
+abbrev pub runWords : ℕ
+runWords = 25600
+
+-- numbers of the lists of motions
+abbrev pub listed : ℕ
+listed = 2256
+
+-- codes of a path
+abbrev pub pathCodes : ℕ
+pathCodes = 1024
