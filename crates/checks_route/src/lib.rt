@@ -38,22 +38,20 @@ pub fn route_refusal(
     board: &[u8],
     l: Sizes,
     tug: u8,
-    start: u16,
-    tick: u16,
-    goal: u16,
+    trip: Trip,
     out_len: usize,
     work_len: usize,
 ) -> u8
     requires { ⌜ Ready (now file) (length (now board)) l ⌝ }
-    ensures { λ r. ⌜ ((areas : Room) → areas .out ≡ «out_len» → areas .words ≡ «work_len» → r ≡ lowest (routeChecks (siteOf (now (file .entry))) (bytesView (siteOf (now (file .entry))) (now (board .entry))) areas tug (node start tick) goal)) ⌝ }
+    ensures { λ r. ⌜ ((areas : Room) → areas .out ≡ «out_len» → areas .words ≡ «work_len» → r ≡ lowest (routeChecks (siteOf (now (file .entry))) (bytesView (siteOf (now (file .entry))) (now (board .entry))) areas tug (node (trip .start) (trip .tick)) (trip .goal))) ⌝ }
 {
     if !board::is_tug(tug) {
         return 9;
     }
-    if !site::trip_named(l, Trip { start, tick, goal }) {
+    if !site::trip_named(l, trip) {
         return 10;
     }
-    if site::state_speed(file, goal as usize) != 0 {
+    if site::state_speed(file, trip.goal as usize) != 0 {
         return 11;
     }
     if board::holder_stands(board, tug) {

@@ -11,11 +11,12 @@ use Rattle.meaning.specs.Site.{Site, siteOf}
 use Rattle.meaning.specs.Reach.{Route}
 use Rattle.meaning.specs.Light.{Light, encode}
 use Rattle.meaning.specs.Calls.{PublicCall, opening, onBoard, listed, route, lightRoom, wordsNeeded, Lent, lends, over, refusals, Done, grantedDone, acceptedDone, refusedDone, doneBy, meant}
-use Rattle.meaning.proofs.CallLaws.{meant-number, PassesTo14, named-start, named-tick, named-goal}
+use Rattle.meaning.proofs.CallLaws.{meant-number, PassesTo14}
 use Rattle.meaning.specs.Plan.{node}
 use Rattle.site.specs.Check.{sizesOf}
 use Rattle.site.specs.Ready.{Ready}
 use Rattle.site.specs.declared.Sizes.{Sizes}
+use Rattle.site.specs.declared.Trip.{Trip}
 use Rattle.site.specs.declared.Check.the-variants.{Passed, Refused}
 use Rattle.checks.specs.Checks.{checkBy}
 use Rattle.checks.proofs.Laws.{refused-number}
@@ -56,6 +57,9 @@ module _ (file board out words : List ℕ) (tug start tick goal : ℕ) where
   abbrev lent : Lent
   lent = lends board out words
 
+  abbrev trip : Trip
+  trip = record { start = start; tick = tick; goal = goal }
+
   abbrev is : Done
   is = meant file lent (listed (route tug (node start tick) goal))
 
@@ -85,19 +89,8 @@ module _ (file board out words : List ℕ) (tug start tick goal : ℕ) where
     passes : PassesTo14 (siteOf file) lent tug (node start tick) goal
     passes = routes.passes file lent tug (node start tick) goal l e passed
 
-    -- both states are known
-    pub route-states : (start < length (siteOf file .states)) × (goal < length (siteOf file .states))
-    route-states = (named-start (siteOf file) (node start tick) goal (passes .named), named-goal (siteOf file) (node start tick) goal (passes .named))
-
-    pub route-asked : (from to : ℕ) → from < length (siteOf file .states) → to < length (siteOf file .states) → Asked file l (length board) from tick to
-    route-asked from to from-known to-known = record {
-      read = readied l e .read;
-      says = readied l e .sizes;
-      sized = readied l e .board;
-      start-known = from-known;
-      goal-known = to-known;
-      in-time = named-tick (siteOf file) (node start tick) goal (passes .named);
-    }
+    pub route-asked : Asked file l (length board) trip
+    route-asked = record { ready = readied l e; named = passes .named }
 
     pub route-room : lightRoom (siteOf file) ≤ length out
     route-room = passes .light-room
@@ -106,10 +99,10 @@ module _ (file board out words : List ℕ) (tug start tick goal : ℕ) where
     route-words = passes .words-room
 
     abbrev o : Option Route
-    o = routeOn file board start tick goal
+    o = routeOn file board trip
 
     abbrev light : Light
-    light = lightOn file board tug start tick goal
+    light = lightOn file board tug trip
 
     -- a plan was found
     pub route-granted : (len arrival : ℕ) (left new : List ℕ) → F.Route len arrival ≡ foundOf o light → left ≡ outOf o light out

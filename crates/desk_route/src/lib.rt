@@ -2,6 +2,7 @@
 use answers::Granted;
 use search::Found;
 use site::Check;
+use site::Trip;
 ghost use mathlib.Core.Path.{_≡_};
 ghost use Prim.Native.Nat.{_≤_};
 ghost use lib.ListN.{length, replicate};
@@ -40,14 +41,13 @@ pub fn route(
 {
     match checks::check_board(file, board) {
         Check::Passed(l) => {
+            let trip = Trip { start, tick, goal };
             let number = checks_route::route_refusal(
                 file,
                 board,
                 l,
                 tug,
-                start,
-                tick,
-                goal,
+                trip,
                 out.len(),
                 work.len(),
             );
@@ -56,7 +56,7 @@ pub fn route(
             }
             let words = checks_route::words_needed(l);
             zero_words(work, words);
-            match search::find(file, l, board, tug, start, tick, goal, out) {
+            match search::find(file, l, board, tug, trip, out) {
                 Found::Route(len, arrival) => Granted::Granted(len, arrival),
                 Found::Nothing => Granted::Refused(18),
             }

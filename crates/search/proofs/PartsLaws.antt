@@ -14,10 +14,12 @@ use Rattle.meaning.specs.Board.{Free, free, edition}
 use Rattle.meaning.specs.Reach.{Route}
 use Rattle.meaning.specs.Light.{Light, encode}
 use Rattle.meaning.specs.Calls.{lightRoom, over, bytesView, grantedLight}
+use Rattle.meaning.proofs.CallLaws.{named-start, named-tick, named-goal}
 use Rattle.meaning.proofs.LightLaws.{length-encode}
 use Rattle.meaning.proofs.TraceLaws.{found-steps}
 use Rattle.meaning.specs.Plan.{node}
 use Rattle.site.specs.declared.Sizes.{Sizes}
+use Rattle.site.specs.declared.Trip.{Trip}
 use Rattle.search_ticks.specs.Rows.{rowsFree}
 use Rattle.search_site.specs.Arrays.{cellAt, States, Motions}
 use Rattle.search_step.specs.Sets.{Closed, Explored}
@@ -36,20 +38,29 @@ use Rattle.search.specs.declared.Found.the-variants as Answer
 use Rattle.search.specs.Finds.{Asked, routeOn, lightOn, Planned, foundOf, outOf}
 
 -- the numbers that keep each index of the search in range
-pub record Ranges (l : Sizes) (start tick goal : ℕ) : Type 0 where
+pub record Ranges (l : Sizes) (trip : Trip) : Type 0 where
   pub short : l .horizon ≤ 1000
-  pub in-time : tick ≤ l .horizon
-  pub start-below : start < l .states
-  pub goal-below : goal < l .states
+  pub in-time : trip .tick ≤ l .horizon
+  pub start-below : trip .start < l .states
+  pub goal-below : trip .goal < l .states
   pub states-few : l .states ≤ 256
   pub motions-few : l .motions ≤ 2000
 
 -- the arrays and rows are the sets of the search on the board
-abbrev pub SetsOn : List ℕ → List ℕ → Sizes → ℕ → ℕ → List ℕ → List ℕ → List ℕ → List ℕ → List ℕ → Type 0
-SetsOn file board l start tick st mv fr al re =
-    Sets (siteOf file) (free (siteOf file) board) (node start tick) (l .states) (l .motions) st mv file fr al re
+abbrev pub SetsOn : List ℕ → List ℕ → Sizes → Trip → List ℕ → List ℕ → List ℕ → List ℕ → List ℕ → Type 0
+SetsOn file board l trip st mv fr al re =
+    Sets (siteOf file) (free (siteOf file) board) (node (trip .start) (trip .tick)) (l .states) (l .motions) st mv file fr al re
 
-module _ (file board : List ℕ) (l : Sizes) (start tick goal : ℕ) (q : Asked file l (length board) start tick goal) where
+module _ (file board : List ℕ) (l : Sizes) (trip : Trip) (q : Asked file l (length board) trip) where
+  abbrev start : ℕ
+  start = trip .start
+
+  abbrev tick : ℕ
+  tick = trip .tick
+
+  abbrev goal : ℕ
+  goal = trip .goal
+
   abbrev site : Site
   site = siteOf file
 
@@ -57,23 +68,23 @@ module _ (file board : List ℕ) (l : Sizes) (start tick goal : ℕ) (q : Asked 
   f = free site board
 
   site-well : WellFormed site
-  site-well = well file (q .read)
+  site-well = well file (q .ready .read)
 
   -- ---- what the layout says
 
   pub same-states : l .states ≡ length (site .states)
-  same-states = ap (λ (k : Sizes). k .states) (q .says)
+  same-states = ap (λ (k : Sizes). k .states) (q .ready .sizes)
 
   same-motions : l .motions ≡ length (site .motions)
-  same-motions = ap (λ (k : Sizes). k .motions) (q .says)
+  same-motions = ap (λ (k : Sizes). k .motions) (q .ready .sizes)
 
   same-horizon : site .horizon ≡ l .horizon
-  same-horizon = sym (ap (λ (k : Sizes). k .horizon) (q .says))
+  same-horizon = sym (ap (λ (k : Sizes). k .horizon) (q .ready .sizes))
 
   same-cells : site .cells ≡ l .cells
-  same-cells = sym (ap (λ (k : Sizes). k .cells) (q .says))
+  same-cells = sym (ap (λ (k : Sizes). k .cells) (q .ready .sizes))
 
-  pub ranges : Ranges l start tick goal
+  pub ranges : Ranges l trip
   ranges =
       let w = site-well in
       let h = same-horizon in
@@ -81,9 +92,9 @@ module _ (file board : List ℕ) (l : Sizes) (start tick goal : ℕ) (q : Asked 
       let k = same-motions in
       record {
         short = omega (arith, w .horizon-range);
-        in-time = omega (arith, q .in-time);
-        start-below = omega (arith, q .start-known);
-        goal-below = omega (arith, q .goal-known);
+        in-time = omega (arith, named-tick site (node start tick) goal (q .named));
+        start-below = omega (arith, named-start site (node start tick) goal (q .named));
+        goal-below = omega (arith, named-goal site (node start tick) goal (q .named));
         states-few = omega (arith, w .states-range);
         motions-few = omega (arith, w .motions-range);
       }
@@ -91,36 +102,36 @@ module _ (file board : List ℕ) (l : Sizes) (start tick goal : ℕ) (q : Asked 
   pub board-fits : (l .cells ≤ 255) × ((l .horizon ≤ 1000) × (4 + l .cells * (l .horizon + 1) ≤ length board))
   board-fits =
       let size : length board ≡ 4 + l .cells * (l .horizon + 1) =
-      q .sized ∙ ap (λ (c : ℕ). 4 + c * (site .horizon + 1)) same-cells ∙ ap (λ (h : ℕ). 4 + l .cells * (h + 1)) same-horizon in
+      q .ready .board ∙ ap (λ (c : ℕ). 4 + c * (site .horizon + 1)) same-cells ∙ ap (λ (h : ℕ). 4 + l .cells * (h + 1)) same-horizon in
       (omega (arith, same-cells, site-well .cells-range), (ranges .short, omega arith))
 
   -- ---- what the parts leave
 
   pub states-in : (st : List ℕ) → StatesDecoded file st → 512 ≤ length st → States (l .states) st
-  states-in st held = states-fit file (q .read) st held (l .states) same-states
+  states-in st held = states-fit file (q .ready .read) st held (l .states) same-states
 
   pub motions-in : (mv : List ℕ) → MotionsDecoded file mv → 10000 ≤ length mv → Motions (l .motions) mv
-  motions-in mv held = motions-fit file (q .read) mv held (l .motions) same-motions
+  motions-in mv held = motions-fit file (q .ready .read) mv held (l .motions) same-motions
 
   pub sweeps-in : (mv : List ℕ) → MotionsDecoded file mv → Sweeps (l .motions) mv file
-  sweeps-in mv held = sweeps-fit file (q .read) mv held (l .motions) same-motions
+  sweeps-in mv held = sweeps-fit file (q .ready .read) mv held (l .motions) same-motions
 
   pub sets-in : (st mv fr al re : List ℕ) → StatesDecoded file st → MotionsDecoded file mv
       → ((s : Site) → s .cells ≡ l .cells → s .horizon ≡ l .horizon → (c t : ℕ) → rowsFree fr c t ≡ free s board c t) → Starts (l .motions) mv file fr al
-      → Explored (Closed (l .states) (l .motions) st mv fr al) fr (cellAt st start) start tick re → SetsOn file board l start tick st mv fr al re
+      → Explored (Closed (l .states) (l .motions) st mv fr al) fr (cellAt st start) start tick re → SetsOn file board l trip st mv fr al re
   sets-in st mv fr al re states moves frees starts explored =
       sets-right site site-well board (l .states) (l .motions) st mv file fr al re start tick
-      (decoded file (q .read) st mv states moves (l .states) (l .motions) same-states same-motions) (frees site same-cells same-horizon) starts (ranges .start-below) (q .in-time) explored
+      (decoded file (q .ready .read) st mv states moves (l .states) (l .motions) same-states same-motions) (frees site same-cells same-horizon) starts (ranges .start-below) (named-tick site (node start tick) goal (q .named)) explored
 
   -- ---- the plan
 
-  module _ (st mv fr al re : List ℕ) (sets : SetsOn file board l start tick st mv fr al re) (arrival : ℕ)
+  module _ (st mv fr al re : List ℕ) (sets : SetsOn file board l trip st mv fr al re) (arrival : ℕ)
       (first : (s : Site) (g : Free) (b : ℕ) → WellFormed s → s .horizon ≡ l .horizon → ReachedRows s g (node b tick) re
       → arrivalIn s g (node b tick) (l .horizon - tick) goal ≡ cond (leb arrival (l .horizon)) (some (arrival - tick)) none) where
     arrives : arrivalIn site f (node start tick) (l .horizon - tick) goal ≡ cond (leb arrival (l .horizon)) (some (arrival - tick)) none
     arrives = first site f start site-well same-horizon (sets .reached)
 
-    pub missing : (path : List ℕ) → l .horizon < arrival → Planned (routeOn file board start tick goal) path Missing
+    pub missing : (path : List ℕ) → l .horizon < arrival → Planned (routeOn file board trip) path Missing
     unfolding Planned
     missing path late = route-nowhere site f start tick goal arrival (l .horizon) same-horizon arrives late
 
@@ -133,7 +144,7 @@ module _ (file board : List ℕ) (l : Sizes) (start tick goal : ℕ) (q : Asked 
 
       pub planned : (path : List ℕ) (count : ℕ)
           → ((x : Search) → Found x (l .states) (l .motions) st mv fr al re tick goal arrival → stepsIn path count ≡ x .route .steps)
-          → Planned (routeOn file board start tick goal) path (Steps count arrival)
+          → Planned (routeOn file board trip) path (Steps count arrival)
       unfolding Planned
       planned path count traced =
           let there-on : tick + (arrival - tick) ≡ arrival = omega arith in
@@ -143,11 +154,11 @@ module _ (file board : List ℕ) (l : Sizes) (start tick goal : ℕ) (q : Asked 
 
   -- ---- the light of a plan
 
-  module _ (path : List ℕ) (count arrival : ℕ) (plan : Planned (routeOn file board start tick goal) path (Steps count arrival)) where
+  module _ (path : List ℕ) (count arrival : ℕ) (plan : Planned (routeOn file board trip) path (Steps count arrival)) where
     abbrev route : Route
     route = record { steps = stepsIn path count; arrival = arrival }
 
-    route-is : routeOn file board start tick goal ≡ some route
+    route-is : routeOn file board trip ≡ some route
     unfolding Planned
     route-is = plan
 
@@ -163,38 +174,38 @@ module _ (file board : List ℕ) (l : Sizes) (start tick goal : ℕ) (q : Asked 
     written e tug =
         record { edition = e; tug = tug; start = start; tick = tick; goal = goal; arrival = arrival; steps = stepsIn path count }
 
-    light-is : (tug : ℕ) → lightOn file board tug start tick goal ≡ written (edition board) tug
+    light-is : (tug : ℕ) → lightOn file board tug trip ≡ written (edition board) tug
     unfolding grantedLight bytesView
     light-is tug = simp route-is
 
     pub found-route : (size : ℕ) → size ≡ lightLength count → (tug : ℕ)
-        → Answer.Route size arrival ≡ foundOf (routeOn file board start tick goal) (lightOn file board tug start tick goal)
+        → Answer.Route size arrival ≡ foundOf (routeOn file board trip) (lightOn file board tug trip)
     unfolding foundOf
     found-route size told tug =
         let many : length (encode (written (edition board) tug)) ≡ size =
         length-encode (written (edition board) tug) ∙ ap lightLength (length-steps path count) ∙ sym told in
-        sym (ap (λ (o : Option Route). foundOf o (lightOn file board tug start tick goal)) route-is
+        sym (ap (λ (o : Option Route). foundOf o (lightOn file board tug trip)) route-is
         ∙ ap (foundOf (some route)) (light-is tug)
         ∙ ap (λ (n : ℕ). Answer.Route n arrival) many)
 
     pub out-light : (tug e : ℕ) (out now : List ℕ) → e ≡ edition board → now ≡ over (encode (written e tug)) out
-        → now ≡ outOf (routeOn file board start tick goal) (lightOn file board tug start tick goal) out
+        → now ≡ outOf (routeOn file board trip) (lightOn file board tug trip) out
     unfolding outOf
     out-light tug e out now same wrote =
         wrote
         ∙ ap (λ (n : ℕ). over (encode (written n tug)) out) same
-        ∙ sym (ap (λ (o : Option Route). outOf o (lightOn file board tug start tick goal) out) route-is
+        ∙ sym (ap (λ (o : Option Route). outOf o (lightOn file board tug trip) out) route-is
         ∙ ap (λ (x : Light). outOf (some route) x out) (light-is tug))
 
-  module _ (path : List ℕ) (plan : Planned (routeOn file board start tick goal) path Missing) where
-    no-route : routeOn file board start tick goal ≡ none
+  module _ (path : List ℕ) (plan : Planned (routeOn file board trip) path Missing) where
+    no-route : routeOn file board trip ≡ none
     unfolding Planned
     no-route = plan
 
-    pub found-nothing : (tug : ℕ) → Answer.Nothing ≡ foundOf (routeOn file board start tick goal) (lightOn file board tug start tick goal)
+    pub found-nothing : (tug : ℕ) → Answer.Nothing ≡ foundOf (routeOn file board trip) (lightOn file board tug trip)
     unfolding foundOf
-    found-nothing tug = sym (ap (λ (o : Option Route). foundOf o (lightOn file board tug start tick goal)) no-route)
+    found-nothing tug = sym (ap (λ (o : Option Route). foundOf o (lightOn file board tug trip)) no-route)
 
-    pub out-same : (tug : ℕ) (out : List ℕ) → out ≡ outOf (routeOn file board start tick goal) (lightOn file board tug start tick goal) out
+    pub out-same : (tug : ℕ) (out : List ℕ) → out ≡ outOf (routeOn file board trip) (lightOn file board tug trip) out
     unfolding outOf
-    out-same tug out = sym (ap (λ (o : Option Route). outOf o (lightOn file board tug start tick goal) out) no-route)
+    out-same tug out = sym (ap (λ (o : Option Route). outOf o (lightOn file board tug trip) out) no-route)

@@ -1,40 +1,37 @@
 -- What the search of a route call needs, and what it answers and leaves.
 -- Assumes nothing.
-use Prim.Native.Nat.{ℕ, _≤_, _<_}
+use Prim.Native.Nat.{ℕ}
 use mathlib.Core.Path.{_≡_}
+use mathlib.Core.Bool.{true}
 use mathlib.Core.Option.{Option, none, some}
 use mathlib.Core.List.{List}
 use lib.ListN.{length}
-use Rattle.meaning.specs.Answers.{accepted}
-use Rattle.meaning.specs.Site.{siteOf, readSite}
-use Rattle.meaning.specs.Board.{free, boardLength}
+use Rattle.meaning.specs.Site.{siteOf}
+use Rattle.meaning.specs.Board.{free}
 use Rattle.meaning.specs.Reach.{Route, findRoute}
 use Rattle.meaning.specs.Light.{Light, encode}
-use Rattle.meaning.specs.Calls.{over, bytesView, grantedLight}
+use Rattle.meaning.specs.Calls.{over, bytesView, startNamed, grantedLight}
 use Rattle.meaning.specs.Plan.{node}
-use Rattle.site.specs.Check.{sizesOf}
+use Rattle.site.specs.Ready.{Ready}
 use Rattle.site.specs.declared.Sizes.{Sizes}
+use Rattle.site.specs.declared.Trip.{Trip}
 use Rattle.light_write.specs.Codes.{stepsIn}
 use Rattle.search.specs.declared.Traced.{Traced}
 use Rattle.search.specs.declared.Traced.the-variants.{Steps, Missing}
 use Rattle.search.specs.declared.Found.{Found}
 use Rattle.search.specs.declared.Found.the-variants as Found
 
--- an accepted file and what it says, a board of its size, and a start and a goal of its site
-pub record Asked (file : List ℕ) (l : Sizes) (size start tick goal : ℕ) : Type 0 where
-  pub read : readSite file ≡ accepted (siteOf file)
-  pub says : l ≡ sizesOf (siteOf file)
-  pub sized : size ≡ boardLength (siteOf file)
-  pub start-known : start < length (siteOf file .states)
-  pub goal-known : goal < length (siteOf file .states)
-  pub in-time : tick ≤ siteOf file .horizon
+-- an accepted file with its sizes, a board of its length, and a trip whose states and tick are the site's
+pub record Asked (file : List ℕ) (l : Sizes) (size : ℕ) (trip : Trip) : Type 0 where
+  pub ready : Ready file size l
+  pub named : startNamed (siteOf file) (node (trip .start) (trip .tick)) (trip .goal) ≡ true
 
--- the route from (start, tick) to the goal on the board, and its light
-abbrev pub routeOn : List ℕ → List ℕ → ℕ → ℕ → ℕ → Option Route
-routeOn file board start tick goal = findRoute (siteOf file) (free (siteOf file) board) (node start tick) goal
+-- the route of the trip on the board, and its light
+abbrev pub routeOn : List ℕ → List ℕ → Trip → Option Route
+routeOn file board trip = findRoute (siteOf file) (free (siteOf file) board) (node (trip .start) (trip .tick)) (trip .goal)
 
-abbrev pub lightOn : List ℕ → List ℕ → ℕ → ℕ → ℕ → ℕ → Light
-lightOn file board tug start tick goal = grantedLight (siteOf file) (bytesView (siteOf file) board) tug (node start tick) goal
+abbrev pub lightOn : List ℕ → List ℕ → ℕ → Trip → Light
+lightOn file board tug trip = grantedLight (siteOf file) (bytesView (siteOf file) board) tug (node (trip .start) (trip .tick)) (trip .goal)
 
 -- the plan says the route, whose steps are in the path
 unfoldable pub Planned : Option Route → List ℕ → Traced → Type 0

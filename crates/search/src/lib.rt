@@ -3,6 +3,7 @@ use light::Head;
 use search_sizes::ALLOWED_WORDS;
 use search_sizes::PATH_CODES;
 use site::Sizes;
+use site::Trip;
 ghost use mathlib.Core.Path.{_≡_};
 ghost use Prim.Native.Nat.{_≤_};
 ghost use lib.ListN.{length};
@@ -19,33 +20,34 @@ enum Traced {
 // The plan with the least arrival, its steps in `path`.
 fn search(
     file: &[u8],
-    layout: Sizes,
+    sizes: Sizes,
     board: &[u8],
-    start: usize,
-    tick: usize,
-    goal: usize,
+    trip: Trip,
     path: &mut [u16; PATH_CODES],
 ) -> Traced
-    requires { ⌜ Asked (now file) layout (length (now board)) start tick goal ⌝ }
-    ensures { λ r. ⌜ Planned (routeOn (now (file .entry)) (now (board .entry)) start tick goal) (now (path .exit)) r ⌝ }
+    requires { ⌜ Asked (now file) sizes (length (now board)) trip ⌝ }
+    ensures { λ r. ⌜ Planned (routeOn (now (file .entry)) (now (board .entry)) trip) (now (path .exit)) r ⌝ }
 {
-    let states = search_site::decode_states(file, layout.states);
-    let moves = search_site::decode_moves(file, layout.start, layout.motions);
-    let frees = search_free::free_rows(board, layout.cells, layout.horizon);
+    let states = search_site::decode_states(file, sizes.states);
+    let moves = search_site::decode_moves(file, sizes.start, sizes.motions);
+    let frees = search_free::free_rows(board, sizes.cells, sizes.horizon);
     let mut allowed = [18446744073709551615u64; ALLOWED_WORDS];
-    search_reach::allow_all(&mut allowed, &frees, &moves, file, layout.motions);
+    search_reach::allow_all(&mut allowed, &frees, &moves, file, sizes.motions);
+    let start = trip.start as usize;
+    let tick = trip.tick as usize;
+    let goal = trip.goal as usize;
     let reached = search_reach::explore(
         &states,
         &moves,
         &frees,
         &allowed,
-        layout.states,
-        layout.motions,
+        sizes.states,
+        sizes.motions,
         start,
         tick,
     );
-    let arrival = search_back::arrival(&reached, goal, tick, layout.horizon);
-    if layout.horizon < arrival {
+    let arrival = search_back::arrival(&reached, goal, tick, sizes.horizon);
+    if sizes.horizon < arrival {
         return Traced::Missing;
     }
     let count = search_trace::trace_back(
@@ -54,8 +56,8 @@ fn search(
         &frees,
         &allowed,
         &reached,
-        layout.states,
-        layout.motions,
+        sizes.states,
+        sizes.motions,
         tick,
         goal,
         arrival,
@@ -71,40 +73,21 @@ pub enum Found {
 }
 
 // Writes the light of the plan with the least arrival.
-pub fn find(
-    file: &[u8],
-    layout: Sizes,
-    board: &[u8],
-    tug: u8,
-    start: u16,
-    tick: u16,
-    goal: u16,
-    out: &mut [u8],
-) -> Found
-    requires { ⌜ Asked (now file) layout (length (now board)) start tick goal × (lightRoom (siteOf (now file)) ≤ length (now out)) ⌝ }
-    ensures { λ r. ⌜ r ≡ foundOf (routeOn (now (file .entry)) (now (board .entry)) start tick goal)
-        (lightOn (now (file .entry)) (now (board .entry)) tug start tick goal) ⌝ }
-    ensures { λ _. ⌜ now (out .exit) ≡ outOf (routeOn (now (file .entry)) (now (board .entry)) start tick goal)
-        (lightOn (now (file .entry)) (now (board .entry)) tug start tick goal) (now (out .entry)) ⌝ }
+pub fn find(file: &[u8], sizes: Sizes, board: &[u8], tug: u8, trip: Trip, out: &mut [u8]) -> Found
+    requires { ⌜ Asked (now file) sizes (length (now board)) trip × (lightRoom (siteOf (now file)) ≤ length (now out)) ⌝ }
+    ensures { λ r. ⌜ r ≡ foundOf (routeOn (now (file .entry)) (now (board .entry)) trip) (lightOn (now (file .entry)) (now (board .entry)) tug trip) ⌝ }
+    ensures { λ _. ⌜ now (out .exit) ≡ outOf (routeOn (now (file .entry)) (now (board .entry)) trip) (lightOn (now (file .entry)) (now (board .entry)) tug trip) (now (out .entry)) ⌝ }
 {
     let mut path = [0u16; PATH_CODES];
-    match search(
-        file,
-        layout,
-        board,
-        start as usize,
-        tick as usize,
-        goal as usize,
-        &mut path,
-    ) {
+    match search(file, sizes, board, trip, &mut path) {
         Traced::Steps(count, arrival) => {
             let edition = board::read_edition(board);
             let head = Head {
                 edition,
                 tug,
-                start,
-                tick,
-                goal,
+                start: trip.start,
+                tick: trip.tick,
+                goal: trip.goal,
                 arrival: arrival as u16,
             };
             light_write::write_light(out, &path, count, head);

@@ -27,7 +27,7 @@ abbrev at-9 : tie.Else2 → tie.Else1
 at-9 c = c .before .before
 
 abbrev at-10 : tie.Else3 → tie.Else2
-at-10 c = c .before .before
+at-10 c = c .before .before .before
 
 abbrev at-11 : tie.Else4 → tie.Else3
 at-11 c = c .before .before
@@ -38,9 +38,9 @@ abbrev list : tie.Start → Room → List Refusal
 list s areas =
     let a = s .args in
     let site = siteOf (a .file .now) in
-    routeChecks site (bytesView site (a .board .now)) areas (a .tug) (node (a .start) (a .tick)) (a .goal)
+    routeChecks site (bytesView site (a .board .now)) areas (a .tug) (node (a .trip .start) (a .trip .tick)) (a .trip .goal)
 
-named : (c : tie.Else2) → let a = start (at-9 c) .args in startNamed (siteOf (a .file .now)) (node (a .start) (a .tick)) (a .goal) ≡ true
+named : (c : tie.Else2) → let a = start (at-9 c) .args in startNamed (siteOf (a .file .now)) (node (a .trip .start) (a .trip .tick)) (a .trip .goal) ≡ true
 named c = sym (c .before .trip-named .ensures _ (start (at-9 c) .pre .sizes)) ∙ not-false _ (c .if2 .left)
 
 past-9 : (c : tie.Else1) (areas : Room) → Past 10 (list (start c) areas)
@@ -84,13 +84,16 @@ returns-2 c = λ areas out words.
     let at = c .before .before in
     past-9 at areas _ (hit 10 _ _ (negated (c .before .trip-named .ensures _ (start at .pre .sizes)) (c .if2 .taken)))
 
+cast-state-speed : tie.Need-cast-state-speed
+cast-state-speed c = search needs
+
 state-speed-requires : tie.Need-state-speed-requires
-state-speed-requires c κs = (read-laid _ _ (start (at-9 c) .pre .read), named-goal _ _ _ (named c))
+state-speed-requires c κs = (read-laid _ _ (start (at-9 (c .before)) .pre .read), named-goal _ _ _ (named (c .before)))
 
 returns-3 : tie.Need-returns-3
 unfolding routeRefusals
 returns-3 c = λ areas out words.
-    past-10 (c .before .before) areas _ (hit 11 _ _ (ap not (ne-eqb _ _ (λ e. c .if3 .taken (c .before .state-speed .ensures ∙ e)))))
+    past-10 (c .before .before .before) areas _ (hit 11 _ _ (ap not (ne-eqb _ _ (λ e. c .if3 .taken (c .before .state-speed .ensures ∙ e)))))
 
 holder-stands-requires : tie.Need-holder-stands-requires
 holder-stands-requires c κs = let size = start (at-9 (at-10 c)) .pre .board in omega arith
@@ -118,6 +121,7 @@ route-refusal-spec =
     returns
     trip-named-requires
     returns-2
+    cast-state-speed
     state-speed-requires
     returns-3
     holder-stands-requires

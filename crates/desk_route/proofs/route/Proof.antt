@@ -16,7 +16,7 @@ use Rattle.checks.specs.Checks.{checkBy}
 use Rattle.checks.proofs.Passed.{ready}
 use Rattle.checks_route.proofs.Laws.{ready-small}
 use Rattle.checks_route.proofs.RouteLaws as routes
-use Rattle.desk_route.proofs.Laws.{route-first, route-later, route-states, route-asked, route-room, route-words, route-granted, route-none}
+use Rattle.desk_route.proofs.Laws.{route-first, route-later, route-asked, route-room, route-words, route-granted, route-none}
 use Rattle.desk_route.proofs.route.Statement.{statement}
 use Rattle.desk_route.proofs.route.Tie as tie
 
@@ -86,8 +86,7 @@ find-requires c κs =
     let behind-14 = behind (c .before .before .before) in
     let at = arm (behind-14 .before) in
     let a = start at .args in
-    let states = route-states (a .file .now) (a .board .now) (a .out .now) (a .work .now) (a .tug) (a .start) (a .tick) (a .goal) _ (passes at) (passed behind-14) in
-    (route-asked (a .file .now) (a .board .now) (a .out .now) (a .work .now) (a .tug) (a .start) (a .tick) (a .goal) _ (passes at) (passed behind-14) _ _ (omega arith) (omega arith), route-room (a .file .now) (a .board .now) (a .out .now) (a .work .now) (a .tug) (a .start) (a .tick) (a .goal) _ (passes at) (passed behind-14))
+    (route-asked (a .file .now) (a .board .now) (a .out .now) (a .work .now) (a .tug) (a .start) (a .tick) (a .goal) _ (passes at) (passed behind-14), route-room (a .file .now) (a .board .now) (a .out .now) (a .work .now) (a .tug) (a .start) (a .tick) (a .goal) _ (passes at) (passed behind-14))
 
 enum-known-len : tie.Need-enum-known-len
 enum-known-len c = search needs

@@ -18,13 +18,13 @@ abbrev start : tie.After-count → tie.Start
 start c = c .before .before .before .before .before .before .before
 
 plan : (c : tie.After-count)
-    → Planned (routeOn (start c .args .file .now) (start c .args .board .now) (start c .args .start) (start c .args .tick) (start c .args .goal))
-    (c .before .before .search .last .1 .1 .1 .1 .1 .1 .0) (Steps (c .count .given .0 .0) (c .count .given .0 .1 .0))
+    → Planned (routeOn (start c .args .file .now) (start c .args .board .now) (start c .args .trip))
+    (c .before .before .search .last .1 .1 .1 .1 .0) (Steps (c .count .given .0 .0) (c .count .given .0 .1 .0))
 plan c = subst (Planned _ _) (c .count .given .1) (c .before .before .search .ensures)
 
 plan-fits : (c : tie.After-count)
     → (c .count .given .0 .0 ≤ 1000) × (c .count .given .0 .1 .0 ≤ 1000) × (lightLength (c .count .given .0 .0) ≤ lightRoom (siteOf (start c .args .file .now)))
-plan-fits c = fits _ (start c .args .board .now) _ _ _ _ (start c .pre .0) _ _ _ (plan c)
+plan-fits c = fits _ (start c .args .board .now) _ _ (start c .pre .0) _ _ _ (plan c)
 
 search-requires : tie.Need-search-requires
 search-requires c κs = search needs
@@ -35,8 +35,8 @@ enum-known-count c = search needs
 read-edition-requires : tie.Need-read-edition-requires
 read-edition-requires c κs = search needs
 
-cast-t20 : tie.Need-cast-t20
-cast-t20 c = let f = plan-fits (c .before .before) in record { fits = omega arith }
+cast-t15 : tie.Need-cast-t15
+cast-t15 c = let f = plan-fits (c .before .before) in record { fits = omega arith }
 
 write-light-requires : tie.Need-write-light-requires
 write-light-requires c κs =
@@ -46,11 +46,11 @@ write-light-requires c κs =
 length-of-requires : tie.Need-length-of-requires
 length-of-requires c κs = let f = plan-fits (c .before .before .before .before .before .before .before) in omega arith
 
-cast-t20-2 : tie.Need-cast-t20-2
-cast-t20-2 c = let f = plan-fits (c .before .before .before .before .before .before .before .before) in record { fits = omega (arith, c .length-of .ensures) }
+cast-t15-2 : tie.Need-cast-t15-2
+cast-t15-2 c = let f = plan-fits (c .before .before .before .before .before .before .before .before) in record { fits = omega (arith, c .length-of .ensures) }
 
-cast-t26 : tie.Need-cast-t26
-cast-t26 c = let f = plan-fits (c .before .before .before .before .before .before .before .before) in record { fits = omega arith }
+cast-t21 : tie.Need-cast-t21
+cast-t21 c = let f = plan-fits (c .before .before .before .before .before .before .before .before) in record { fits = omega arith }
 
 enum-told : tie.Need-enum-told
 enum-told c = search needs
@@ -65,8 +65,8 @@ returns c =
     let board = b .args .board .now in
     let e = c .before .before .before .before .before .before .read-edition .ensures in
     let w = c .before .before .before .write-light .ensures in (
-      found-route _ board _ _ _ _ (b .pre .0) _ _ _ (plan p) _ (c .length-of .ensures) (b .args .tug),
-      out-light _ board _ _ _ _ (b .pre .0) _ _ _ (plan p) (b .args .tug) _ (b .args .out .now) _ e w,
+      found-route _ board _ _ (b .pre .0) _ _ _ (plan p) _ (c .length-of .ensures) (b .args .tug),
+      out-light _ board _ _ (b .pre .0) _ _ _ (plan p) (b .args .tug) _ (b .args .out .now) _ e w,
     )
 
 returns-2 : tie.Need-returns-2
@@ -74,7 +74,7 @@ returns-2 c =
     let b = c .before .before .before .before .before .before .before in
     let board = b .args .board .now in
     let none-there = subst (Planned _ _) (c .enum-told .given .1) (c .before .before .search .ensures) in
-    (found-nothing _ board _ _ _ _ (b .pre .0) _ none-there (b .args .tug), out-same _ board _ _ _ _ (b .pre .0) _ none-there (b .args .tug) (b .args .out .now))
+    (found-nothing _ board _ _ (b .pre .0) _ none-there (b .args .tug), out-same _ board _ _ (b .pre .0) _ none-there (b .args .tug) (b .args .out .now))
 
 pub find-spec : {M : Type 1} → statement M
 find-spec =
@@ -83,11 +83,11 @@ find-spec =
     search-requires
     enum-known-count
     read-edition-requires
-    cast-t20
+    cast-t15
     write-light-requires
     length-of-requires
-    cast-t20-2
-    cast-t26
+    cast-t15-2
+    cast-t21
     enum-told
     same-length
     returns

@@ -15,48 +15,54 @@ use Rattle.search.proofs.search.Tie as tie
 -- ---- the places that the answers look back to, from where all sets but the reached pairs are there
 
 abbrev start : tie.After-allowed3 → tie.Start
-start e = e .before .before .before .before .before .before .before .before .before .before .before .before .before .before
+start e = e .before .before .before .before .before .before .before .before .before .before .before .before .before .before .before .before .before
 
 abbrev states : tie.After-allowed3 → tie.After-decode-states
-states e = e .before .before .before .before .before .before .before .before .before .before .before
+states e = e .before .before .before .before .before .before .before .before .before .before .before .before .before .before
 
 abbrev moves : tie.After-allowed3 → tie.After-decode-moves
-moves e = e .before .before .before .before .before .before .before .before .before .before
+moves e = e .before .before .before .before .before .before .before .before .before .before .before .before .before
 
 abbrev frees : tie.After-allowed3 → tie.After-free-rows
-frees e = e .before .before .before .before .before .before .before .before .before
+frees e = e .before .before .before .before .before .before .before .before .before .before .before .before
 
 abbrev starts : tie.After-allowed3 → tie.After-allow-all
-starts e = e .before .before .before .before .before
+starts e = e .before .before .before .before .before .before .before .before
+
+abbrev sets : tie.After-explore → tie.After-allowed3
+sets x = x .before
+
+abbrev explored : tie.After-arrival → tie.After-explore
+explored a = a .before .before
 
 -- ---- what holds there
 
-ranges-at : (b : tie.Start) → Ranges (b .args .layout) (b .args .start) (b .args .tick) (b .args .goal)
-ranges-at b = ranges _ (b .args .board .now) _ _ _ _ (b .pre)
+ranges-at : (b : tie.Start) → Ranges (b .args .sizes) (b .args .trip)
+ranges-at b = ranges _ (b .args .board .now) _ _ (b .pre)
 
-states-there : (e : tie.After-allowed3) → States (start e .args .layout .states) (states e .decode-states .result)
+states-there : (e : tie.After-allowed3) → States (start e .args .sizes .states) (states e .decode-states .result)
 states-there e =
     let b = start e in
     let st = states e .decode-states in
-    states-in _ (b .args .board .now) _ _ _ _ (b .pre) (st .result) (st .ensures) (omega (arith, st .ok))
+    states-in _ (b .args .board .now) _ _ (b .pre) (st .result) (st .ensures) (omega (arith, st .ok))
 
-moves-there : (e : tie.After-allowed3) → Motions (start e .args .layout .motions) (moves e .decode-moves .result)
+moves-there : (e : tie.After-allowed3) → Motions (start e .args .sizes .motions) (moves e .decode-moves .result)
 moves-there e =
     let b = start e in
     let mv = moves e .decode-moves in
-    motions-in _ (b .args .board .now) _ _ _ _ (b .pre) (mv .result) (mv .ensures) (omega (arith, mv .ok))
+    motions-in _ (b .args .board .now) _ _ (b .pre) (mv .result) (mv .ensures) (omega (arith, mv .ok))
 
-starts-there : (e : tie.After-allowed3) → start e .args .layout .motions * 16 ≤ length (starts e .allow-all .last .0)
+starts-there : (e : tie.After-allowed3) → start e .args .sizes .motions * 16 ≤ length (starts e .allow-all .last .0)
 starts-there e =
-    rw (starts e .allow-all .kept .0) (ones-long 32000 (start e .args .layout .motions) (omega (arith, ranges-at (start e) .motions-few)))
+    rw (starts e .allow-all .kept .0) (ones-long 32000 (start e .args .sizes .motions) (omega (arith, ranges-at (start e) .motions-few)))
 
 sets-there : (x : tie.After-explore)
-    → SetsOn (start (x .before) .args .file .now) (start (x .before) .args .board .now) (start (x .before) .args .layout) (start (x .before) .args .start)
-    (start (x .before) .args .tick) (states (x .before) .decode-states .result) (moves (x .before) .decode-moves .result) (frees (x .before) .free-rows .result)
-    (starts (x .before) .allow-all .last .0) (x .explore .result)
+    → SetsOn (start (sets x) .args .file .now) (start (sets x) .args .board .now) (start (sets x) .args .sizes) (start (sets x) .args .trip)
+    (states (sets x) .decode-states .result) (moves (sets x) .decode-moves .result) (frees (sets x) .free-rows .result)
+    (starts (sets x) .allow-all .last .0) (x .explore .result)
 sets-there x =
-    let e = x .before in
-    sets-in _ (start e .args .board .now) _ _ _ _ (start e .pre) (states e .decode-states .result) (moves e .decode-moves .result) (frees e .free-rows .result)
+    let e = sets x in
+    sets-in _ (start e .args .board .now) _ _ (start e .pre) (states e .decode-states .result) (moves e .decode-moves .result) (frees e .free-rows .result)
     (starts e .allow-all .last .0) (x .explore .result) (states e .decode-states .ensures) (moves e .decode-moves .ensures) (frees e .free-rows .ensures)
     (starts e .allow-all .ensures) (x .explore .ensures)
 
@@ -65,17 +71,17 @@ sets-there x =
 decode-states-requires : tie.Need-decode-states-requires
 decode-states-requires c κs =
     let b = c .before .before in
-    (b .pre .read, same-states _ (b .args .board .now) _ _ _ _ (b .pre))
+    (b .pre .ready .read, same-states _ (b .args .board .now) _ _ (b .pre))
 
 decode-moves-requires : tie.Need-decode-moves-requires
 decode-moves-requires c κs =
     let b = c .before .before .before in
-    ((b .pre .read, ap (λ (k : Sizes). k .start) (b .pre .says)), ap (λ (k : Sizes). k .motions) (b .pre .says))
+    ((b .pre .ready .read, ap (λ (k : Sizes). k .start) (b .pre .ready .sizes)), ap (λ (k : Sizes). k .motions) (b .pre .ready .sizes))
 
 free-rows-requires : tie.Need-free-rows-requires
 free-rows-requires c κs =
     let b = c .before .before .before .before in
-    board-fits _ (b .args .board .now) _ _ _ _ (b .pre)
+    board-fits _ (b .args .board .now) _ _ (b .pre)
 
 slice-aggregate-allow-all : tie.Need-slice-aggregate-allow-all
 slice-aggregate-allow-all c = search needs
@@ -92,12 +98,21 @@ allow-all-requires c κs =
     let mv = c .before .before .before .before .decode-moves in
     let board = b .args .board .now in
     let few = ranges-at b .motions-few in (
-      (ones-long 32000 (b .args .layout .motions) (omega (arith, few)), omega (arith, c .before .before .before .free-rows .ok)),
+      (ones-long 32000 (b .args .sizes .motions) (omega (arith, few)), omega (arith, c .before .before .before .free-rows .ok)),
       (
-        (motions-in _ board _ _ _ _ (b .pre) (mv .result) (mv .ensures) (omega (arith, mv .ok)), sweeps-in _ board _ _ _ _ (b .pre) (mv .result) (mv .ensures)),
+        (motions-in _ board _ _ (b .pre) (mv .result) (mv .ensures) (omega (arith, mv .ok)), sweeps-in _ board _ _ (b .pre) (mv .result) (mv .ensures)),
         λ m t below early. ones-full 32000 m t (omega (arith, few)) early,
       ),
     )
+
+cast-start : tie.Need-cast-start
+cast-start c = search needs
+
+cast-tick : tie.Need-cast-tick
+cast-tick c = search needs
+
+cast-goal : tie.Need-cast-goal
+cast-goal c = search needs
 
 slice-aggregate-explore : tie.Need-slice-aggregate-explore
 slice-aggregate-explore c = search needs
@@ -121,24 +136,25 @@ slice-aggregate-arrival c = search needs
 
 arrival-requires : tie.Need-arrival-requires
 arrival-requires c κs =
-    let r = ranges-at (start (c .before .before)) in
-    (omega (arith, r .start-below, r .goal-below, r .states-few, c .before .explore .ok), (r .in-time, r .short))
+    let x = c .before in
+    let r = ranges-at (start (sets x)) in
+    (omega (arith, r .start-below, r .goal-below, r .states-few, x .explore .ok), (r .in-time, r .short))
 
 returns : tie.Need-returns
 returns c =
     let a = c .before .before in
-    let x = a .before .before in
-    let b = start (x .before) in
-    missing _ (b .args .board .now) _ _ _ _ (b .pre) _ _ _ _ _ (sets-there x) (a .arrival .result) (a .arrival .ensures .1) _ (c .if1 .taken)
+    let x = explored a in
+    let b = start (sets x) in
+    missing _ (b .args .board .now) _ _ (b .pre) _ _ _ _ _ (sets-there x) (a .arrival .result) (a .arrival .ensures .1) _ (c .if1 .taken)
 
 slice-aggregate-trace-back : tie.Need-slice-aggregate-trace-back
-slice-aggregate-trace-back c = sym (c .before .before .before .before .before .before .before .before .before .before .before .before .before .before .before .before .before .decode-states .ok .1 .0 .1)
+slice-aggregate-trace-back c = sym (c .before .before .before .before .before .before .before .before .before .before .before .before .before .before .before .before .before .before .before .before .decode-states .ok .1 .0 .1)
 
 slice-aggregate-trace-back-2 : tie.Need-slice-aggregate-trace-back-2
-slice-aggregate-trace-back-2 c = sym (c .before .before .before .before .before .before .before .before .before .before .before .before .before .before .before .before .before .decode-moves .ok .1 .0 .1)
+slice-aggregate-trace-back-2 c = sym (c .before .before .before .before .before .before .before .before .before .before .before .before .before .before .before .before .before .before .before .before .decode-moves .ok .1 .0 .1)
 
 slice-aggregate-trace-back-3 : tie.Need-slice-aggregate-trace-back-3
-slice-aggregate-trace-back-3 c = sym (c .before .before .before .before .before .before .before .before .before .before .before .before .before .before .before .before .before .free-rows .ok .1 .0 .1)
+slice-aggregate-trace-back-3 c = sym (c .before .before .before .before .before .before .before .before .before .before .before .before .before .before .before .before .before .before .before .before .free-rows .ok .1 .0 .1)
 
 slice-aggregate-trace-back-4 : tie.Need-slice-aggregate-trace-back-4
 slice-aggregate-trace-back-4 c = search needs
@@ -149,8 +165,8 @@ slice-aggregate-trace-back-5 c = search needs
 trace-back-requires : tie.Need-trace-back-requires
 trace-back-requires c κs =
     let a = c .before .before .before .before .before .before .before .before in
-    let x = a .before .before in
-    let e = x .before in
+    let x = explored a in
+    let e = sets x in
     let b = start e in (
       (states-there e, moves-there e),
       (
@@ -159,7 +175,7 @@ trace-back-requires c κs =
           ranges-at b .goal-below,
           (
             _,
-            found _ (b .args .board .now) _ _ _ _ (b .pre) _ _ _ _ _ (sets-there x) (a .arrival .result) (a .arrival .ensures .1) (a .arrival .ensures .0)
+            found _ (b .args .board .now) _ _ (b .pre) _ _ _ _ _ (sets-there x) (a .arrival .result) (a .arrival .ensures .1) (a .arrival .ensures .0)
                 (omega (arith, c .before .before .before .before .before .before .if1 .left)),
           ),
         ),
@@ -169,9 +185,9 @@ trace-back-requires c κs =
 returns-2 : tie.Need-returns-2
 returns-2 c =
     let a = c .before .before .before .before .before .before .before .before .before in
-    let x = a .before .before in
-    let b = start (x .before) in
-    planned _ (b .args .board .now) _ _ _ _ (b .pre) _ _ _ _ _ (sets-there x) (a .arrival .result) (a .arrival .ensures .1) (a .arrival .ensures .0)
+    let x = explored a in
+    let b = start (sets x) in
+    planned _ (b .args .board .now) _ _ (b .pre) _ _ _ _ _ (sets-there x) (a .arrival .result) (a .arrival .ensures .1) (a .arrival .ensures .0)
     (omega (arith, c .before .before .before .before .before .before .before .if1 .left)) _ (c .trace-back .result) (c .trace-back .ensures)
 
 pub search-spec : {M : Type 1} → statement M
@@ -185,6 +201,9 @@ search-spec =
     slice-aggregate-allow-all-2
     slice-aggregate-allow-all-3
     allow-all-requires
+    cast-start
+    cast-tick
+    cast-goal
     slice-aggregate-explore
     slice-aggregate-explore-2
     slice-aggregate-explore-3
