@@ -32,8 +32,8 @@ goal-below site l h = named-goal site (startOf l) (l .goal) (every-at _ h 0)
 
 -- a file that is ready is laid out, and the layout says where its motions start
 pub ready-index : {file : List ℕ} {room : ℕ} {l : Sizes} → Ready file room l
-    → (length file ≤ fileLimit) × Laid file × (l .start ≡ statePlace (length (siteOf file .states)))
-ready-index {file} r = (read-passes file _ (r .read) .short, read-laid file _ (r .read), ap (λ (k : Sizes). k .start) (r .sizes))
+    → (length file ≤ fileLimit) × Laid file × (l .start ≡ statePlace (length (siteOf file .states))) × (l .motions ≡ length (siteOf file .motions))
+ready-index {file} r = (read-passes file _ (r .read) .short, read-laid file _ (r .read), ap (λ (k : Sizes). k .start) (r .sizes), ap (λ (k : Sizes). k .motions) (r .sizes))
 
 -- ---- no check of a post applies
 

@@ -25,7 +25,7 @@ fn edition_refusal(file: &[u8], board: &[u8], l: Sizes, light: &[u8], wanted: u3
     if other {
         return 16;
     }
-    let index = site::motion_index(file, l.start);
+    let index = site::motion_index(file, l.start, l.motions);
     if !plan_check::light_valid(file, board, l, &index, light) {
         return 17;
     }
@@ -61,7 +61,7 @@ pub fn post_work(file: &[u8], board: &mut [u8], l: Sizes, light: &[u8])
     requires { ⌜ Postable (now file) (now board) l (now light) ⌝ }
     ensures { λ _. ⌜ now (board .exit) ≡ changed (siteOf (now (file .entry))) (now (board .entry)) (post (now (light .entry))) ⌝ }
 {
-    let index = site::motion_index(file, l.start);
+    let index = site::motion_index(file, l.start, l.motions);
     plan_mark::mark_light(file, board, l, &index, light);
     board::next_edition(board);
 }

@@ -124,7 +124,7 @@ pub fn decode_moves(file: &[u8], start: usize, count: usize) -> [u16; MOTION_NUM
     requires { ⌜ count ≡ length (siteOf (now file) .motions) ⌝ }
     ensures { λ r. ⌜ MotionsDecoded (now (file .entry)) r ⌝ }
 {
-    let index = site::motion_index(file, start);
+    let index = site::motion_index(file, start, count);
     let mut moves = [0u16; MOTION_NUMBERS];
     let mut m = 0;
     while m < count {

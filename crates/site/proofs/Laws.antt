@@ -9,12 +9,12 @@ use native.Mathlib.Numerals.{add-one}
 use lib.ListN.{length, getD, take, drop, set, length-drop, length-map}
 use lib.Seq.{drop-drop, getD-drop, drop-at, take-add, length-take-le, getD-set-same, getD-set-other, drop-cons}
 use lib.Dec.{leb, ltb, eqb}
-use borrow.Author.Tests.{leb-true, eqb-true, eqb-false, ltb-true}
+use borrow.Author.Tests.{leb-true, eqb-true, eqb-false, ltb-true, ltb-false}
 use Rattle.meaning.specs.Limits.{motionLimit, sweepLimit}
 use Rattle.meaning.specs.Basics.{all, u16At}
 use Rattle.meaning.specs.Fields.{Field, listed}
 use Rattle.meaning.specs.Site.{Motion, Site, noMotion, siteOf, cellOf, stateCount, isMotion, sweepCount, motionsLaid, motionOf, sweepsOf, endsGood, sweepsGood, motionGood}
-use Rattle.meaning.proofs.BasicsLaws.{and-left, and-right, all-head, all-tail}
+use Rattle.meaning.proofs.BasicsLaws.{decide, and-left, and-right, all-head, all-tail}
 use Rattle.meaning.proofs.SiteFieldsLaws.{motion-parts}
 use Rattle.meaning.proofs.MotionLaws.{and-four}
 use Rattle.fields.specs.declared.Header.{Header}
@@ -123,19 +123,6 @@ ends-below n a b d e = let (x, y, _, _) = and-four (ltb a n) (ltb b n) (not (eqb
 
 -- ---- the motions from a place on
 
-module _ (p : Motion → Bool) (f : Field) (fs gs : List Field) (h : fs ≡ f ∷ gs) where
-  pub motions-hit : p (motionOf f) ≡ true → all p (map motionOf fs) ≡ all p (map motionOf gs)
-  unfolding all
-  motions-hit e = rw (h, e)
-
-  pub motions-miss : p (motionOf f) ≡ false → all p (map motionOf fs) ≡ false
-  unfolding all
-  motions-miss e = rw (h, e)
-
-pub motions-none : (p : Motion → Bool) (file : List ℕ) (at : ℕ) → length file ≤ at → all p (map motionOf (listed (fieldsAt file at))) ≡ true
-unfolding all
-motions-none p file at h = rw (listed-end file at h)
-
 pub motions-next : (file : List ℕ) (at r : ℕ) → Motions file at → Next file at r → Motions file r
 motions-next file at r m x = record { inside = x .inside; whole = x .whole; motions = all-tail isMotion _ _ (rw (x .list) at (m .motions)) }
 
@@ -186,18 +173,11 @@ reached-next file at r n m x =
       count = omega arith;
     }
 
-pub reached-end : (file : List ℕ) (at n : ℕ) → Reached file at n → length file ≤ at → n ≡ length (siteOf file .motions)
-reached-end file at n m p =
-    let l = ap length (listed-end file at p) in
-    let c = m .count in
-    omega arith
-
-pub reached-more : (file : List ℕ) (at n : ℕ) → Reached file at n → at < length file → n < length (siteOf file .motions)
-reached-more file at n m p =
-    let x = next-is file at _ _ (m .motions .whole) p refl refl in
-    let l = ap length (x .list) in
-    let c = m .count in
-    omega arith
+-- where a motion is left, the file goes on
+pub reached-inside : (file : List ℕ) (at n : ℕ) → Reached file at n → n < length (siteOf file .motions) → at < length file
+reached-inside file at n m p =
+    decide (ltb at (length file)) (λ e. ltb-true at (length file) e)
+    (λ e. absurd (let l = ap length (listed-end file at (ltb-false at (length file) e)) in let c = m .count in omega arith))
 
 pub reached-place : (file : List ℕ) (at n : ℕ) → Reached file at n → at < length file → MotionPlace file n at
 reached-place file at n m p =

@@ -74,8 +74,10 @@ module _ (file : List ℕ) (d : Laid file) (head : Head) (e : HeadIs file head) 
   pub motions-start : (start : ℕ) → start ≡ statePlace (head .states) → Motions file start × (siteOf file .motions ≡ map motionOf (listed (fieldsAt file start)))
   motions-start start p = laid-start file start d (p ∙ ap statePlace count-is)
 
+  pub motions-count : (start n : ℕ) → start ≡ statePlace (head .states) → n ≡ length (listed (fieldsAt file start)) → n ≡ length (siteOf file .motions)
+  motions-count start n p q = q ∙ sym (ap length (motions-start start p .1) ∙ simp length-map)
+
   pub accepted-is : (start n : ℕ) → start ≡ statePlace (head .states) → n ≡ length (listed (fieldsAt file start)) →
       Passed (sizesOf (siteOf file)) ≡ Passed (record { horizon = head .horizon; cells = head .cells; states = head .states; motions = n; start = start })
   accepted-is start n p q =
-      let m : length (siteOf file .motions) ≡ length (listed (fieldsAt file start)) = ap length (motions-start start p .1) ∙ simp length-map in
-      same-layout (sym (e .horizon)) (sym (e .cells)) (sym count-is) (m ∙ sym q) (sym (p ∙ ap statePlace count-is))
+      same-layout (sym (e .horizon)) (sym (e .cells)) (sym count-is) (sym (motions-count start n p q)) (sym (p ∙ ap statePlace count-is))

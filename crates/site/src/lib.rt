@@ -134,16 +134,18 @@ fn motion_good(file: &[u8], at: usize, count: usize, cells: usize) -> bool
     }
 }
 
-// Each motion from `start` on does.
-fn motions_good(file: &[u8], start: usize, count: usize, cells: usize) -> bool
-    requires { ⌜ Laid (now file) × Motions (now file) start ⌝ }
+// Each of the `motions` motions does, which start at `start`.
+fn motions_good(file: &[u8], start: usize, motions: usize, count: usize, cells: usize) -> bool
+    requires { ⌜ Laid (now file) × (start ≡ statePlace (length (siteOf (now file) .states))) × (motions ≡ length (siteOf (now file) .motions)) ⌝ }
     requires { ⌜ (cells ≡ siteOf (now file) .cells) × (count ≡ length (siteOf (now file) .states)) ⌝ }
-    ensures { λ r. ⌜ r ≡ all (motionGood (siteOf (now (file .entry)))) (map motionOf (listed (fieldsAt (now (file .entry)) start))) ⌝ }
+    ensures { λ r. ⌜ r ≡ all (motionGood (siteOf (now (file .entry)))) (siteOf (now (file .entry)) .motions) ⌝ }
 {
     let mut at = start;
-    while at < file.len() {
+    let mut n = 0;
+    while n < motions {
         if motion_good(file, at, count, cells) {
             at = fields::next_field(file, at);
+            n = n + 1;
         } else {
             return false;
         }
@@ -195,7 +197,8 @@ fn check_values(file: &[u8], head: Head) -> Check
     let count = head.states;
     let start = state_place(count);
     let states_pass = states_good(file, count, cells);
-    let motions_pass = motions_good(file, start, count, cells);
+    let motions = fields::count_fields(file, start);
+    let motions_pass = motions_good(file, start, motions, count, cells);
     if !states_pass {
         return Check::Refused(5);
     }
@@ -206,7 +209,7 @@ fn check_values(file: &[u8], head: Head) -> Check
         horizon: head.horizon,
         cells,
         states: count,
-        motions: fields::count_fields(file, start),
+        motions,
         start,
     })
 }
@@ -231,18 +234,18 @@ pub fn check_site(file: &[u8]) -> Check
     check_values(file, head)
 }
 
-// The index: where each motion's field starts, found in one walk from `start`, where the motions start.
-pub fn motion_index(file: &[u8], start: usize) -> [u16; MOTION_LIMIT]
-    requires { ⌜ (length (now file) ≤ 65536) × Laid (now file) × (start ≡ statePlace (length (siteOf (now file) .states))) ⌝ }
+// The index: where the field of each of the `motions` motions starts, found in one walk from `start`, where they start.
+pub fn motion_index(file: &[u8], start: usize, motions: usize) -> [u16; MOTION_LIMIT]
+    requires { ⌜ (length (now file) ≤ 65536) × Laid (now file) × (start ≡ statePlace (length (siteOf (now file) .states))) × (motions ≡ length (siteOf (now file) .motions)) ⌝ }
     ensures { λ r. ⌜ Index (now (file .entry)) r ⌝ }
 {
     let mut index = [0u16; MOTION_LIMIT];
     let mut at = start;
     let mut n = 0;
-    while at < file.len() {
+    while n < motions {
         index[n] = at as u16;
         at = fields::next_field(file, at);
-        n = n + 1;
+        n += 1;
     }
     index
 }

@@ -24,7 +24,7 @@ motion-index-requires : tie.Need-motion-index-requires Inv-loop μ-loop
 motion-index-requires c κs =
     let f = c .before .args .file .now in
     let p = c .before .pre .0 in
-    (read-passes f _ (p .0) .short, read-laid f _ (p .0), p .1)
+    (read-passes f _ (p .0) .short, read-laid f _ (p .0), p .1, c .before .pre .1)
 
 loop-holds : tie.Need-loop-holds Inv-loop μ-loop
 loop-holds c = (omega arith, refl, λ k q. absurd (omega arith))

@@ -2,12 +2,12 @@
 -- Assumes nothing.
 use Prim.Native.Nat.{ℕ}
 use mathlib.Core.Path.{_≡_, sym, ap, _∙_}
-use mathlib.Core.Bool.{true, false}
 use borrow.Author.Tests.{not-true, not-false}
 use Rattle.meaning.specs.Basics.{all}
 use Rattle.meaning.specs.Site.{siteOf, cellGood, motionGood}
+use Rattle.site_layout.specs.Laid.{statePlace}
 use Rattle.site_layout.proofs.Laws.{states-few}
-use Rattle.site.proofs.Numbers.{number-5, number-6, number-0, count-is, motions-start, accepted-is}
+use Rattle.site.proofs.Numbers.{number-5, number-6, number-0, count-is, motions-start, motions-count, accepted-is}
 use native.Mathlib.Omega.{arith}
 use Rattle.site.proofs.check_values.Statement.{statement}
 use Rattle.site.proofs.check_values.Tie as tie
@@ -30,53 +30,52 @@ states-good-requires c κs =
     let h = a .head in
     (p .1, count-is f (p .1) h (p .2))
 
+count-fields-requires : tie.Need-count-fields-requires
+count-fields-requires c κs =
+    let b = c .before .before .before in
+    let p = b .pre in
+    let x = motions-start (b .args .file .now) (p .1) (b .args .head) (p .2) _ (c .before .state-place .ensures) .0 in
+    (x .whole, x .inside)
+
 motions-good-requires : tie.Need-motions-good-requires
 motions-good-requires c κs =
-    let a = c .before .before .before .args in
-    let p = c .before .before .before .pre in
-    let f = a .file .now in
-    let h = a .head in
-    ((p .1, motions-start f (p .1) h (p .2) _ (c .before .state-place .ensures) .0), (p .2 .cells, count-is f (p .1) h (p .2)))
+    let b = c .before .before .before .before in
+    let p = b .pre in
+    let f = b .args .file .now in
+    let h = b .args .head in
+    let place = c .before .before .state-place .ensures in
+    let count = count-is f (p .1) h (p .2) in
+    ((p .1, place ∙ ap statePlace count, motions-count f (p .1) h (p .2) _ _ place (c .count-fields .ensures)), (p .2 .cells, count))
+
+-- the tests that the two functions made, from behind both
+abbrev start : tie.After-motions-good → tie.Start
+start c = c .before .before .before .before .before
+
+states-told : (c : tie.After-motions-good) → let f = start c .args .file .now in c .before .before .states-good .result ≡ all (cellGood (siteOf f .cells)) (siteOf f .states)
+states-told c =
+    let f = start c .args .file .now in
+    c .before .before .states-good .ensures ∙ ap (λ (k : ℕ). all (cellGood k) (siteOf f .states)) (start c .pre .2 .cells)
 
 returns : tie.Need-returns
 returns c =
-    let a = c .before .before .before .before .before .args in
-    let p = c .before .before .before .before .before .pre in
-    let f = a .file .now in
-    let h = a .head in
-    let s : all (cellGood (siteOf f .cells)) (siteOf f .states) ≡ false = ap (λ (k : ℕ). all (cellGood k) (siteOf f .states)) (sym (p .2 .cells)) ∙ sym (c .before .before .states-good .ensures) ∙ not-true _ (c .if1 .taken) in
-    sym (number-5 f (p .0) (p .1) s)
+    let at = c .before in
+    let p = start at .pre in
+    sym (number-5 _ (p .0) (p .1) (sym (states-told at) ∙ not-true _ (c .if1 .taken)))
 
 returns-2 : tie.Need-returns-2
 returns-2 c =
-    let a = c .before .before .before .before .before .before .args in
-    let p = c .before .before .before .before .before .before .pre in
-    let f = a .file .now in
-    let h = a .head in
-    let s : all (cellGood (siteOf f .cells)) (siteOf f .states) ≡ true = ap (λ (k : ℕ). all (cellGood k) (siteOf f .states)) (sym (p .2 .cells)) ∙ sym (c .before .before .before .states-good .ensures) ∙ not-false _ (c .before .if1 .left) in
-    let x = motions-start f (p .1) h (p .2) _ (c .before .before .before .before .state-place .ensures) in
-    let m : all (motionGood (siteOf f)) (siteOf f .motions) ≡ false = ap (all (motionGood (siteOf f))) (x .1) ∙ sym (c .before .before .motions-good .ensures) ∙ not-true _ (c .if2 .taken) in
-    sym (number-6 f (p .0) (p .1) s m)
-
-count-fields-requires : tie.Need-count-fields-requires
-count-fields-requires c κs =
-    let a = c .before .before .before .before .before .before .args in
-    let p = c .before .before .before .before .before .before .pre in
-    let f = a .file .now in
-    let h = a .head in
-    let x = motions-start f (p .1) h (p .2) _ (c .before .before .before .before .state-place .ensures) .0 in
-    (x .whole, x .inside)
+    let at = c .before .before in
+    let p = start at .pre in
+    sym (number-6 _ (p .0) (p .1) (sym (states-told at) ∙ not-false _ (c .before .if1 .left)) (sym (at .motions-good .ensures) ∙ not-true _ (c .if2 .taken)))
 
 returns-3 : tie.Need-returns-3
 returns-3 c =
-    let a = c .before .before .before .before .before .before .before .args in
-    let p = c .before .before .before .before .before .before .before .pre in
-    let f = a .file .now in
-    let h = a .head in
-    let s : all (cellGood (siteOf f .cells)) (siteOf f .states) ≡ true = ap (λ (k : ℕ). all (cellGood k) (siteOf f .states)) (sym (p .2 .cells)) ∙ sym (c .before .before .before .before .states-good .ensures) ∙ not-false _ (c .before .before .if1 .left) in
-    let x = motions-start f (p .1) h (p .2) _ (c .before .before .before .before .before .state-place .ensures) in
-    let m : all (motionGood (siteOf f)) (siteOf f .motions) ≡ true = ap (all (motionGood (siteOf f))) (x .1) ∙ sym (c .before .before .before .motions-good .ensures) ∙ not-false _ (c .before .if2 .left) in
-    sym (number-0 f (p .0) (p .1) s m ∙ accepted-is f (p .1) h (p .2) _ _ (c .before .before .before .before .before .state-place .ensures) (c .count-fields .ensures))
+    let at = c .before .before in
+    let b = start at in
+    let p = b .pre in
+    sym
+    (number-0 _ (p .0) (p .1) (sym (states-told at) ∙ not-false _ (c .before .if1 .left)) (sym (at .motions-good .ensures) ∙ not-false _ (c .if2 .left))
+    ∙ accepted-is (b .args .file .now) (p .1) (b .args .head) (p .2) _ _ (at .before .before .before .state-place .ensures) (at .before .count-fields .ensures))
 
 pub check-values-spec : {M : Type 1} → statement M
 check-values-spec =
@@ -84,8 +83,8 @@ check-values-spec =
     (tie.spec
     state-place-requires
     states-good-requires
+    count-fields-requires
     motions-good-requires
     returns
     returns-2
-    count-fields-requires
     returns-3)
