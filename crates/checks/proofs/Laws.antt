@@ -22,7 +22,7 @@ use Rattle.meaning.proofs.SiteLaws.{read-site}
 use Rattle.site.specs.Check.{checkOf, sizesOf}
 use Rattle.site.specs.declared.Sizes.{Sizes}
 use Rattle.site.specs.declared.Check.the-variants.{Passed, Refused}
-use Rattle.site.proofs.Accepted.{accepted-read, accepted-layout, refused-read}
+use Rattle.site.proofs.ReadLaws.{accepted-read, accepted-layout, refused-read}
 use Rattle.checks.specs.Checks.{byNumber, checkBy, fromNumber}
 
 -- ---- an answer by its number

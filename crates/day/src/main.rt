@@ -1,10 +1,10 @@
 // The day program: the site from site.bin, an opened board, and a script from standard input, one line for each of its fields.
 // What a field comes to is proved in `day_turns`; here bytes are read, handed over and printed.
 use day_lines::LINE;
-use day_orders::FIELD_HEADER;
 use day_orders::PIECE;
 use day_results::Outcome;
 use day_turns::Opening;
+use fields::FIELD_HEADER;
 use libc::STDIN_FILENO;
 use libc::STDOUT_FILENO;
 ghost use Prim.Native.Nat.{_+_, _≤_};

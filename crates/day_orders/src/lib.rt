@@ -1,4 +1,5 @@
 // The script's fields as calls: how much is read of a field, and which call it asks for.
+use fields::FIELD_HEADER;
 use fields::Header;
 use fields::Item;
 ghost use mathlib.Core.Path.{_≡_};
@@ -26,8 +27,6 @@ const WITHDRAW_SIZE: usize = 1;
 const ROUTE_SIZE: usize = 7;
 
 const POST_SIZE: usize = 0;
-
-pub const FIELD_HEADER: usize = 3;
 
 // A header and the longest value of a call.
 pub const PIECE: usize = FIELD_HEADER + ROUTE_SIZE;

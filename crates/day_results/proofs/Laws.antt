@@ -13,7 +13,7 @@ use Rattle.meaning.proofs.SiteLaws.{site-read, read-well}
 use Rattle.site.specs.Check.{checkOf, sizesOf}
 use Rattle.site.specs.declared.Sizes.{Sizes}
 use Rattle.site.specs.declared.Check.the-variants as Check
-use Rattle.site.proofs.Accepted.{accepted-read, accepted-layout, refused-read}
+use Rattle.site.proofs.ReadLaws.{accepted-read, accepted-layout, refused-read}
 
 module _ (file : List ℕ) (l : Sizes) (e : Check.Passed l ≡ checkOf (readSite file)) where
   said : l ≡ sizesOf (siteOf file)

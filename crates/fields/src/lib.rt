@@ -8,6 +8,9 @@ ghost use Rattle.meaning.specs.Fields.{fields, complete, listed};
 ghost use Rattle.fields.specs.Items.{itemOf};
 ghost use Rattle.fields.specs.Places.{fieldsAt, Next, Whole};
 
+// The bytes of a field's tag and length.
+pub const FIELD_HEADER: usize = 3;
+
 // The reader: a file's bytes with a position.
 pub struct Reader<'a> {
     pub bytes: &'a [u8],
@@ -60,14 +63,14 @@ pub fn item_at(s: &[u8], at: usize) -> Item
     if s.len() <= at {
         return Item::End;
     }
-    if s.len() - at < 3 {
+    if s.len() - at < FIELD_HEADER {
         return Item::Cut;
     }
     let len = number_at(s, at + 1);
-    if s.len() - at - 3 < len {
+    if s.len() - at - FIELD_HEADER < len {
         return Item::Cut;
     }
-    let start = at + 3;
+    let start = at + FIELD_HEADER;
     Item::Field(Header {
         tag: s[at],
         start,

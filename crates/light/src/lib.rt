@@ -1,4 +1,5 @@
 // The light's format, for reading and for writing: its tags, its sizes in bytes, and the numbers of its head.
+use fields::FIELD_HEADER;
 ghost use mathlib.Core.Path.{_≡_};
 ghost use Prim.Native.Nat.{_<_};
 ghost use Rattle.light.specs.Sizes.{lightLength};
@@ -13,9 +14,6 @@ pub const MOVE_TAG: u8 = 18;
 pub const HEAD_SIZE: usize = 13;
 
 pub const STEP_SIZE: usize = 2;
-
-// A field's tag and length.
-pub const FIELD_HEADER: usize = 3;
 
 // Where the first step's field starts, and its bytes.
 pub const FIRST_STEP: usize = FIELD_HEADER + HEAD_SIZE;

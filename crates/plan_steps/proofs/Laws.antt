@@ -23,7 +23,7 @@ use Rattle.site_sweeps.proofs.Laws.{sweeps-length, sweeps-at}
 use Rattle.site.specs.declared.Sizes.{Sizes}
 use Rattle.site.specs.declared.Motion as ReadMotion
 use Rattle.site.specs.Motions.{MotionIs}
-use Rattle.site.proofs.Accepted.{read-laid}
+use Rattle.site.proofs.ReadLaws.{read-laid}
 use Rattle.board.specs.Runs.{Row}
 use Rattle.board.proofs.TickLaws.{row-on}
 use Rattle.site.specs.Ready.{Ready}

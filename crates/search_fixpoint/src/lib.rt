@@ -12,12 +12,16 @@ ghost use Rattle.search_site.specs.Arrays.{States, Motions};
 ghost use Rattle.search_step.specs.Sets.{WaitClosed, MoveClosed, Below, Closed, Going, Settled};
 ghost use Rattle.search_fixpoint.specs.Spread.{Listed, MovesClosed, Tried, Noted, Progress, Unnoted, UnnotedBut, NoneGrown, inTurn};
 
-// Lists of the motions from each state, in rising order: at m stands the motion after m, at 2,000 + s the first one of s, and 2,000 ends a list.
+const NO_MOTION: u16 = MOTIONS as u16;
+
+const LAST_STATE: usize = STATES - 1;
+
+// Lists of the motions from each state, in rising order: at m stands the motion after m, behind all motions, at s, the first one of s; the number that is no motion's ends a list.
 fn lists_of(moves: &[u16], k: usize) -> [u16; LISTED]
     requires { ⌜ Motions k (now moves) ⌝ }
     ensures { λ r. ⌜ Listed k (now (moves .entry)) r ⌝ }
 {
-    let mut lists = [2000u16; LISTED];
+    let mut lists = [NO_MOTION; LISTED];
     let mut m = k;
     while 0 < m {
         m -= 1;
@@ -123,7 +127,7 @@ fn in_turn(s: usize, turn: usize) -> usize
     if turn % 2 == 0 {
         return s;
     }
-    255 - s
+    LAST_STATE - s
 }
 
 // Tries every state, up or down in turn.

@@ -1,5 +1,6 @@
 // The ticks from which a cell stays free for 1, 2, 4, 8 and 16 ticks, and the narrowing of a row by them.
 use search_sizes::CELLS;
+use search_sizes::DOUBLED_ROWS;
 use search_sizes::LEVEL_ROWS;
 use search_sizes::PADDED_WORDS;
 use search_sizes::ROW_WORDS;
@@ -86,7 +87,7 @@ pub fn fill_runs(runs: &mut [u64; RUN_WORDS], f: &[u64])
 {
     single_runs(runs, f);
     let mut r = 0;
-    while r < 1024 {
+    while r < DOUBLED_ROWS {
         double_row(runs, r, size_of(r / LEVEL_ROWS));
         r += 1;
     }

@@ -1,6 +1,8 @@
 // The site file in arrays of numbers, as the search takes it: two numbers a state, five a motion. The sweeps stay in the file.
 use search_sizes::MOTION_NUMBERS;
+use search_sizes::MOTION_SIZE;
 use search_sizes::STATE_NUMBERS;
+use search_sizes::STATE_SIZE;
 use site::Motion;
 ghost use mathlib.Core.Path.{_≡_};
 ghost use Prim.Native.Nat.{_*_, _<_};
@@ -26,7 +28,7 @@ pub fn cell_of(states: &[u16], n: usize, s: usize) -> usize
     requires { ⌜ s < n ⌝ }
     ensures { λ r. ⌜ r ≡ cellAt (now (states .entry)) s ⌝ }
 {
-    number(states[s * 2])
+    number(states[s * STATE_SIZE])
 }
 
 pub fn speed_of(states: &[u16], n: usize, s: usize) -> usize
@@ -34,7 +36,7 @@ pub fn speed_of(states: &[u16], n: usize, s: usize) -> usize
     requires { ⌜ s < n ⌝ }
     ensures { λ r. ⌜ r ≡ speedAt (now (states .entry)) s ⌝ }
 {
-    number(states[s * 2 + 1])
+    number(states[s * STATE_SIZE + 1])
 }
 
 // ---- the numbers of motion m: the states from which and to which it leads, its span, and the place and number of its sweeps
@@ -44,7 +46,7 @@ pub fn from_of(moves: &[u16], k: usize, m: usize) -> usize
     requires { ⌜ m < k ⌝ }
     ensures { λ r. ⌜ r ≡ fromAt (now (moves .entry)) m ⌝ }
 {
-    number(moves[m * 5])
+    number(moves[m * MOTION_SIZE])
 }
 
 pub fn to_of(moves: &[u16], k: usize, m: usize) -> usize
@@ -52,7 +54,7 @@ pub fn to_of(moves: &[u16], k: usize, m: usize) -> usize
     requires { ⌜ m < k ⌝ }
     ensures { λ r. ⌜ r ≡ toAt (now (moves .entry)) m ⌝ }
 {
-    number(moves[m * 5 + 1])
+    number(moves[m * MOTION_SIZE + 1])
 }
 
 pub fn span_of(moves: &[u16], k: usize, m: usize) -> usize
@@ -60,7 +62,7 @@ pub fn span_of(moves: &[u16], k: usize, m: usize) -> usize
     requires { ⌜ m < k ⌝ }
     ensures { λ r. ⌜ r ≡ spanAt (now (moves .entry)) m ⌝ }
 {
-    number(moves[m * 5 + 2])
+    number(moves[m * MOTION_SIZE + 2])
 }
 
 pub fn place_of(moves: &[u16], k: usize, m: usize) -> usize
@@ -68,7 +70,7 @@ pub fn place_of(moves: &[u16], k: usize, m: usize) -> usize
     requires { ⌜ m < k ⌝ }
     ensures { λ r. ⌜ r ≡ placeAt (now (moves .entry)) m ⌝ }
 {
-    number(moves[m * 5 + 3])
+    number(moves[m * MOTION_SIZE + 3])
 }
 
 pub fn count_of(moves: &[u16], k: usize, m: usize) -> usize
@@ -76,7 +78,7 @@ pub fn count_of(moves: &[u16], k: usize, m: usize) -> usize
     requires { ⌜ m < k ⌝ }
     ensures { λ r. ⌜ r ≡ countAt (now (moves .entry)) m ⌝ }
 {
-    number(moves[m * 5 + 4])
+    number(moves[m * MOTION_SIZE + 4])
 }
 
 // ---- the arrays, from the file
@@ -86,8 +88,8 @@ fn put_state(states: &mut [u16; STATE_NUMBERS], s: usize, cell: usize, speed: u8
     requires { ⌜ (s < stateRows) × (cell < 65536) ⌝ }
     ensures { λ _. ⌜ now (states .exit) ≡ setTwo (now (states .entry)) (s * 2) cell speed ⌝ }
 {
-    states[s * 2] = cell as u16;
-    states[s * 2 + 1] = speed as u16;
+    states[s * STATE_SIZE] = cell as u16;
+    states[s * STATE_SIZE + 1] = speed as u16;
 }
 
 // The cell and the speed of each of the `count` states.
@@ -111,11 +113,11 @@ fn put_move(moves: &mut [u16; MOTION_NUMBERS], m: usize, r: Motion)
     requires { ⌜ (m < motionRows) × FitsU16 r ⌝ }
     ensures { λ _. ⌜ now (moves .exit) ≡ setMotion (now (moves .entry)) (m * 5) r ⌝ }
 {
-    moves[m * 5] = r.from as u16;
-    moves[m * 5 + 1] = r.to as u16;
-    moves[m * 5 + 2] = r.span as u16;
-    moves[m * 5 + 3] = r.first as u16;
-    moves[m * 5 + 4] = r.count as u16;
+    moves[m * MOTION_SIZE] = r.from as u16;
+    moves[m * MOTION_SIZE + 1] = r.to as u16;
+    moves[m * MOTION_SIZE + 2] = r.span as u16;
+    moves[m * MOTION_SIZE + 3] = r.first as u16;
+    moves[m * MOTION_SIZE + 4] = r.count as u16;
 }
 
 // From, to, span, place and number of sweeps of each of the `count` motions, which start at `start`.

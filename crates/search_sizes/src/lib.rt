@@ -1,4 +1,4 @@
-// The sizes of the search's tables, by what they count.
+// The sizes of the search's tables, by what they count: those of a site file give all others.
 
 // Words of 64 ticks in a row of ticks.
 pub const ROW_WORDS: usize = 16;
@@ -6,38 +6,44 @@ pub const ROW_WORDS: usize = 16;
 // Words and ticks that stay 0 beside a row, and the words of both: a shift by at most 255 ticks reads no other row.
 pub const PADDING_WORDS: usize = 4;
 
-pub const PADDING_TICKS: usize = 256;
+pub const PADDING_TICKS: usize = PADDING_WORDS * 64;
 
-pub const PADDED_WORDS: usize = 20;
+pub const PADDED_WORDS: usize = ROW_WORDS + PADDING_WORDS;
 
 // Rows of cells, states and motions.
-pub const CELLS: usize = 256;
+pub const CELLS: usize = site_layout::CELL_LIMIT + 1;
 
-pub const STATES: usize = 256;
+pub const STATES: usize = site_layout::STATE_LIMIT;
 
-pub const MOTIONS: usize = 2000;
+pub const MOTIONS: usize = site_layout::MOTION_LIMIT;
 
 // Words of the free ticks, of the reached pairs, and of the allowed starts.
-pub const FREE_WORDS: usize = 4096;
+pub const FREE_WORDS: usize = CELLS * ROW_WORDS;
 
-pub const REACHED_WORDS: usize = 4096;
+pub const REACHED_WORDS: usize = STATES * ROW_WORDS;
 
-pub const ALLOWED_WORDS: usize = 32000;
+pub const ALLOWED_WORDS: usize = MOTIONS * ROW_WORDS;
 
-// Numbers of the states, two each, and of the motions, five each.
-pub const STATE_NUMBERS: usize = 512;
+// Numbers of a state and of a motion, and of all of them.
+pub const STATE_SIZE: usize = 2;
 
-pub const MOTION_NUMBERS: usize = 10000;
+pub const MOTION_SIZE: usize = 5;
 
-// Rows of one level of runs, of all five levels, and their words.
-pub const LEVEL_ROWS: usize = 256;
+pub const STATE_NUMBERS: usize = STATES * STATE_SIZE;
 
-pub const RUN_ROWS: usize = 1280;
+pub const MOTION_NUMBERS: usize = MOTIONS * MOTION_SIZE;
 
-pub const RUN_WORDS: usize = 25600;
+// Rows of one level of runs, of all five levels but the last, of all five, and their words.
+pub const LEVEL_ROWS: usize = CELLS;
+
+pub const DOUBLED_ROWS: usize = LEVEL_ROWS * 4;
+
+pub const RUN_ROWS: usize = LEVEL_ROWS * 5;
+
+pub const RUN_WORDS: usize = RUN_ROWS * PADDED_WORDS;
 
 // Numbers of the lists of motions: one a motion, and one a state.
-pub const LISTED: usize = 2256;
+pub const LISTED: usize = MOTIONS + STATES;
 
 // Codes of a path.
 pub const PATH_CODES: usize = 1024;

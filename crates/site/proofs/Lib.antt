@@ -1,4 +1,4 @@
 pub mod Laws
-pub mod Numbers
-pub mod Accepted
+pub mod NumberLaws
+pub mod ReadLaws
 pub mod TripLaws

@@ -1,4 +1,5 @@
 // The site file: refusals 1 to 6, and access to what an accepted file says.
+use fields::FIELD_HEADER;
 use site_layout::Head;
 use site_layout::MOTION_LIMIT;
 ghost use mathlib.Core.Path.{_≡_};
@@ -20,9 +21,9 @@ ghost use Rattle.site.specs.Check.{sizesOf, checkOf};
 const FILE_LIMIT: usize = 65536;
 
 // The bytes of the head's field, and of a state's.
-const HEAD_FIELD: usize = site_layout::FIELD_HEADER + site_layout::HEAD_SIZE;
+const HEAD_FIELD: usize = FIELD_HEADER + site_layout::HEAD_SIZE;
 
-const STATE_FIELD: usize = site_layout::FIELD_HEADER + site_layout::STATE_SIZE;
+const STATE_FIELD: usize = FIELD_HEADER + site_layout::STATE_SIZE;
 
 // Where the state `i` starts: after the head and the states before it.
 fn state_place(i: usize) -> usize
@@ -37,7 +38,7 @@ fn state_value(file: &[u8], i: usize) -> usize
     requires { ⌜ Laid (now file) × (i < length (siteOf (now file) .states)) ⌝ }
     ensures { λ r. ⌜ StateValue (now (file .entry)) i r ⌝ }
 {
-    state_place(i) + site_layout::FIELD_HEADER
+    state_place(i) + FIELD_HEADER
 }
 
 // The cell and the speed of the state `i`.

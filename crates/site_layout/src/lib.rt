@@ -13,9 +13,9 @@ ghost use Rattle.site_layout.specs.Laid.{firstIs, headValues, motionLeng
 // The most that H, C and S may be, and the most motions and sweeps of a motion.
 const HORIZON_LIMIT: usize = 1000;
 
-const CELL_LIMIT: usize = 255;
+pub const CELL_LIMIT: usize = 255;
 
-const STATE_LIMIT: usize = 256;
+pub const STATE_LIMIT: usize = 256;
 
 pub const MOTION_LIMIT: usize = 2000;
 
@@ -28,9 +28,7 @@ const STATE_TAG: u8 = 2;
 
 const MOTION_TAG: u8 = 3;
 
-// Bytes: a field's tag and length, and the values; a motion's before its sweeps.
-pub const FIELD_HEADER: usize = 3;
-
+// Bytes of the values; of a motion's, those before its sweeps.
 pub const HEAD_SIZE: usize = 5;
 
 pub const STATE_SIZE: usize = 2;

@@ -11,7 +11,7 @@ use Rattle.meaning.proofs.SiteLaws.{read-well}
 use Rattle.site.specs.Check.{checkOf, sizesOf}
 use Rattle.site.specs.declared.Sizes.{Sizes}
 use Rattle.site.specs.declared.Check.the-variants as Check
-use Rattle.site.proofs.Accepted.{accepted-read, accepted-layout}
+use Rattle.site.proofs.ReadLaws.{accepted-read, accepted-layout}
 use Rattle.checks.proofs.Laws.{site-stops, size-stops, size-passes}
 use Rattle.checks.proofs.check_board.Statement.{statement}
 use Rattle.checks.proofs.check_board.Tie as tie

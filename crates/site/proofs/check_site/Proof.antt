@@ -8,7 +8,7 @@ use Rattle.meaning.specs.Fields.{fields, complete}
 use Rattle.meaning.specs.Site.{headOf, headGood, layoutGood, stateCount, laterOf}
 use Rattle.fields.specs.Places.{fieldsAt}
 use Rattle.site_layout.proofs.Laws.{head-here}
-use Rattle.site.proofs.Numbers.{number-1, number-2, number-3, number-4, layout-same}
+use Rattle.site.proofs.NumberLaws.{number-1, number-2, number-3, number-4, layout-same}
 use native.Mathlib.Omega.{arith}
 use borrow.Author.Needs.{needs}
 use Rattle.site.proofs.check_site.Statement.{statement}

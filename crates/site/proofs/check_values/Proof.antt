@@ -7,7 +7,7 @@ use Rattle.meaning.specs.Basics.{all}
 use Rattle.meaning.specs.Site.{siteOf, cellGood, motionGood}
 use Rattle.site_layout.specs.Laid.{statePlace}
 use Rattle.site_layout.proofs.Laws.{states-few}
-use Rattle.site.proofs.Numbers.{number-5, number-6, number-0, count-is, motions-start, motions-count, accepted-is}
+use Rattle.site.proofs.NumberLaws.{number-5, number-6, number-0, count-is, motions-start, motions-count, accepted-is}
 use native.Mathlib.Omega.{arith}
 use Rattle.site.proofs.check_values.Statement.{statement}
 use Rattle.site.proofs.check_values.Tie as tie
