@@ -242,11 +242,11 @@ pub fn motion_index(file: &[u8], start: usize, motions: usize) -> [u16; MOTION_L
 {
     let mut index = [0u16; MOTION_LIMIT];
     let mut at = start;
-    let mut n = 0;
-    while n < motions {
-        index[n] = at as u16;
+    let mut number = 0;
+    while number < motions {
+        index[number] = at as u16;
         at = fields::next_field(file, at);
-        n += 1;
+        number += 1;
     }
     index
 }

@@ -26,7 +26,7 @@ cast-index : tie.Need-cast-index Inv-loop μ-loop
 cast-index c =
     let p = c .before .before .before .pre in
     let l = c .before .loop in
-    omega (arith, p .0, reached-inside (c .before .before .before .args .file .now) (l .at) (l .n) (l .inv .0) (omega (arith, p .3)))
+    omega (arith, p .0, reached-inside (c .before .before .before .args .file .now) (l .at) (l .number) (l .inv .0) (omega (arith, p .3)))
 
 mul-index : tie.Need-mul-index Inv-loop μ-loop
 mul-index c = omega (arith, c .before .before .before .pre .3, laid-few (c .before .before .before .args .file .now) (c .before .before .before .pre .1))
@@ -37,10 +37,10 @@ array-write-index c = omega (arith, c .before .before .before .pre .3, laid-few 
 next-field-requires : tie.Need-next-field-requires Inv-loop μ-loop
 next-field-requires c κs =
     let l = c .before .loop in
-    (l .inv .0 .motions .whole, reached-inside (c .before .before .before .args .file .now) (l .at) (l .n) (l .inv .0) (omega (arith, c .before .before .before .pre .3)))
+    (l .inv .0 .motions .whole, reached-inside (c .before .before .before .args .file .now) (l .at) (l .number) (l .inv .0) (omega (arith, c .before .before .before .pre .3)))
 
-add-n : tie.Need-add-n Inv-loop μ-loop
-add-n c = search needs
+add-number : tie.Need-add-number Inv-loop μ-loop
+add-number c = search needs
 
 loop-less : tie.Need-loop-less Inv-loop μ-loop
 loop-less c = search needs
@@ -50,11 +50,11 @@ loop-again c =
     let f = c .before .before .before .before .args .file .now in
     let p = c .before .before .before .before .pre in
     let l = c .before .before .loop in
-    let more : l .n < length (siteOf f .motions) = omega (arith, p .3) in
-    let r = reached-place f (l .at) (l .n) (l .inv .0) (reached-inside f (l .at) (l .n) (l .inv .0) more) in (
-      reached-next f (l .at) _ (l .n) (l .inv .0) (c .next-field .ensures),
-      length-set (l .index) (l .n) (l .at) ∙ l .inv .1,
-      filled (MotionPlace f) (l .index) (l .n) (l .at) (omega (arith, l .inv .1, laid-few f (p .1))) (l .inv .2) r,
+    let more : l .number < length (siteOf f .motions) = omega (arith, p .3) in
+    let r = reached-place f (l .at) (l .number) (l .inv .0) (reached-inside f (l .at) (l .number) (l .inv .0) more) in (
+      reached-next f (l .at) _ (l .number) (l .inv .0) (c .next-field .ensures),
+      length-set (l .index) (l .number) (l .at) ∙ l .inv .1,
+      filled (MotionPlace f) (l .index) (l .number) (l .at) (omega (arith, l .inv .1, laid-few f (p .1))) (l .inv .2) r,
     )
 
 returns : tie.Need-returns Inv-loop μ-loop
@@ -71,7 +71,7 @@ motion-index-spec =
     mul-index
     array-write-index
     next-field-requires
-    add-n
+    add-number
     loop-less
     loop-again
     returns)
