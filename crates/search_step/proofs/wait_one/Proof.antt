@@ -22,7 +22,7 @@ fill-row-requires : tie.Need-fill-row-requires
 fill-row-requires c κs =
     let b = c .before .before .before .before .before .before .before in
     let cell = b .pre .0 .0 .cell (b .args .s) (b .pre .0 .1) in
-    (omega (arith, b .pre .0 .0 .few), omega (arith, c .before .cell-of .ensures, cell))
+    (omega (arith, b .pre .0 .0 .few), omega (arith, b .pre .0 .0 .few, c .before .cell-of .ensures, cell))
 
 same-length : tie.Need-same-length
 same-length c = search needs
