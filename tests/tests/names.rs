@@ -125,9 +125,9 @@ impl Names {
 
     /// The names that a file takes from elsewhere, the kit's libraries among them.
     fn add_imports(&mut self, line: &str) {
-        let line = line.trim_start().trim_start_matches("ghost ");
-        if let (Some(_), Some((_, list))) = (line.strip_prefix("use "), line.split_once('{')) {
-            self.all.extend(list.split(|c: char| !is_name(c)).map(str::to_string));
+        if let Some(path) = line.trim_start().trim_start_matches("ghost ").strip_prefix("use ") {
+            let named = path.split_once(" as ").or_else(|| path.split_once('{')).map_or("", |(_, names)| names);
+            self.all.extend(named.split(|c: char| !is_name(c)).map(str::to_string));
         }
     }
 
@@ -165,7 +165,7 @@ impl Names {
         if let Some((krate, item)) = token.split_once("::") {
             return self.has_item(krate, item);
         }
-        if [".antt", ".rs", ".rt", ".h", ".md", ".txt"].iter().any(|ending| token.ends_with(ending)) {
+        if [".antt", ".rs", ".rt", ".h", ".md", ".txt", ".bin"].iter().any(|ending| token.ends_with(ending)) {
             return self.files.contains(token) || self.root.join(token).exists();
         }
         if let Some(member) = token.strip_prefix('.').filter(|member| member.chars().all(is_name)) {
