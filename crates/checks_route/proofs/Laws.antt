@@ -21,7 +21,7 @@ use Rattle.checks_route.specs.Checks.{roomEnough}
 
 -- ---- the sizes of a site
 
-pub states-of : {l : Sizes} (site : Site) → l ≡ sizesOf site → l .states ≡ length (site .states)
+states-of : {l : Sizes} (site : Site) → l ≡ sizesOf site → l .states ≡ length (site .states)
 states-of site e = ap (λ (k : Sizes). k .states) e
 
 pub horizon-of : {l : Sizes} (site : Site) → l ≡ sizesOf site → l .horizon ≡ site .horizon

@@ -11,7 +11,7 @@ use Rattle.meaning.specs.Site.{Site, siteOf, siteRefusals}
 use Rattle.meaning.specs.Board.{free}
 use Rattle.meaning.specs.Plan.{Node}
 use Rattle.meaning.specs.Reach.{Route, findRoute}
-use Rattle.meaning.specs.Calls.{PublicCall, route, opening, listed, bytesView, routeRefusals, laterRefusals, Lent, onBoard, roomOf, withWordsZero, refusals, acceptedDone, refusedDone, meant}
+use Rattle.meaning.specs.Calls.{PublicCall, route, opening, listed, bytesView, routeRefusals, laterRefusals, Lent, onBoard, roomOf, withWordsZero, refusals, acceptedDone, meant}
 use Rattle.meaning.proofs.AnswersLaws as AnswersLaws
 use Rattle.meaning.proofs.CallLaws.{PassesTo14, passes-to-14, meant-number, meant-by, meant-accepted, refused-same, refused-18, search-found, search-none}
 use Rattle.site.specs.Check.{sizesOf}

@@ -15,7 +15,7 @@ ghost use Rattle.meaning.specs.Limits.{fieldHeader, header, routeSize, dayArea}
 ghost use Rattle.day_turns.specs.Turns.{Areas};
 
 // One byte more than a site file may have, so that a longer one is seen.
-const FILE: usize = 65537;
+const FILE: usize = site::FILE_LIMIT + 1;
 
 // The bytes of an area, and how many 32-bit words one holds.
 const AREA: usize = 65536;

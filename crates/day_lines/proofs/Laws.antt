@@ -42,7 +42,7 @@ spelled (suc (suc k)) (suc bound) n h below =
     (ap (λ (front : List ℕ). front ++ ((48 + n % 10) ∷ []))
     (spelled (suc k) bound (n / 10) (fewest-tenth k n h) (omega arith)))
 
-pub digits-decimal : (n k : ℕ) → Fewest 10 1 n k → digits 10 k n ≡ decimal n
+digits-decimal : (n k : ℕ) → Fewest 10 1 n k → digits 10 k n ≡ decimal n
 unfolding decimal
 digits-decimal n k h = spelled k (suc n) n h (omega arith)
 

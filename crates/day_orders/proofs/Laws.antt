@@ -18,7 +18,6 @@ use Rattle.meaning.proofs.BasicsLaws.{decide, and-right}
 use Rattle.fields.specs.Places.{fieldAt, Whole}
 use Rattle.fields.specs.declared.Header.{Header}
 use Rattle.fields.proofs.Laws.{whole-length, whole-byte, whole-u16}
-use Rattle.day_orders.specs.declared.Order.{Order}
 use Rattle.day_orders.specs.declared.Order.the-variants.{Close, Withdraw, Route, Post}
 use Rattle.day_orders.specs.declared.Entry.{Entry}
 use Rattle.day_orders.specs.declared.Entry.the-variants.{Call, Bad, End}

@@ -20,7 +20,7 @@ use Rattle.fields.specs.declared.Item.the-variants.{Cut, End}
 use Rattle.fields.specs.declared.Item.the-variants as Item
 
 -- ---- by place
-pub u16-drop : (file : List ℕ) (at i : ℕ) → u16At (drop at file) i ≡ u16At file (at + i)
+u16-drop : (file : List ℕ) (at i : ℕ) → u16At (drop at file) i ≡ u16At file (at + i)
 u16-drop file at i =
     let e : at + (i + 1) ≡ at + i + 1 = omega arith in
     rw (getD-drop at file i 0, getD-drop at file (i + 1) 0, e)
@@ -29,12 +29,12 @@ pub at-end : (file : List ℕ) (at : ℕ) → length file ≤ at → fieldsAt fi
 unfolding fieldsAt
 at-end file at p = fields-end (drop at file) (omega (arith, length-drop at file))
 
-pub at-short : (file : List ℕ) (at : ℕ) → at < length file → length file < at + 3 → fieldsAt file at ≡ cut
+at-short : (file : List ℕ) (at : ℕ) → at < length file → length file < at + 3 → fieldsAt file at ≡ cut
 unfolding fieldsAt
 at-short file at p q = let e = length-drop at file in fields-short (drop at file) (omega arith) (omega arith)
 
 -- n is what the code read for the length
-pub at-cut : (file : List ℕ) (at n : ℕ) → n ≡ u16At file (at + 1) → at + 3 ≤ length file → length file < at + 3 + n → fieldsAt file at ≡ cut
+at-cut : (file : List ℕ) (at n : ℕ) → n ≡ u16At file (at + 1) → at + 3 ≤ length file → length file < at + 3 + n → fieldsAt file at ≡ cut
 unfolding fieldsAt
 at-cut file at n h p q =
     let e = length-drop at file in
@@ -61,15 +61,15 @@ pub complete-end : (file : List ℕ) (at : ℕ) → length file ≤ at → compl
 unfolding complete
 complete-end file at p = rw (at-end file at p)
 
-pub complete-short : (file : List ℕ) (at : ℕ) → at < length file → length file < at + 3 → complete (fieldsAt file at) ≡ false
+complete-short : (file : List ℕ) (at : ℕ) → at < length file → length file < at + 3 → complete (fieldsAt file at) ≡ false
 unfolding complete
 complete-short file at p q = rw (at-short file at p q)
 
-pub complete-cut : (file : List ℕ) (at n : ℕ) → n ≡ u16At file (at + 1) → at + 3 ≤ length file → length file < at + 3 + n → complete (fieldsAt file at) ≡ false
+complete-cut : (file : List ℕ) (at n : ℕ) → n ≡ u16At file (at + 1) → at + 3 ≤ length file → length file < at + 3 + n → complete (fieldsAt file at) ≡ false
 unfolding complete
 complete-cut file at n h p q = rw (at-cut file at n h p q)
 
-pub complete-next : (file : List ℕ) (at n : ℕ) → n ≡ u16At file (at + 1) → at + 3 + n ≤ length file → complete (fieldsAt file at) ≡ complete (fieldsAt file (at + 3 + n))
+complete-next : (file : List ℕ) (at n : ℕ) → n ≡ u16At file (at + 1) → at + 3 + n ≤ length file → complete (fieldsAt file at) ≡ complete (fieldsAt file (at + 3 + n))
 unfolding complete
 complete-next file at n h q = rw (at-next file at n h q)
 

@@ -160,7 +160,7 @@ module _ (s : List ℕ) (at : ℕ) where
       (λ p q. let z : _≡_ {A = ℕ} 0 1 = cc in absurd (omega arith))
       (λ l w q. absurd (by-end (isMove (fieldAt s at)) (isWait (fieldAt s at)) (u16At (fieldAt s at .value) 0) l (e ∙ q)))
 
-  pub is-wrong : {X : Type 0} → Wrong ≡ stepAt s at → (fieldsAt s at ≡ cut → X)
+  is-wrong : {X : Type 0} → Wrong ≡ stepAt s at → (fieldsAt s at ≡ cut → X)
       → ((later : ℕ) → fieldsAt s at ≡ next (fieldAt s at) (fieldsAt s later)
       → isMove (fieldAt s at) ≡ false → isWait (fieldAt s at) ≡ false → X) → X
   is-wrong e f g =

@@ -38,11 +38,11 @@ length-steps path (suc c) = ap suc (length-steps path c)
 
 -- ---- bytes
 
-pub length-step : (p : Step) → length (fieldBytes (stepField p)) ≡ stepLength
+length-step : (p : Step) → length (fieldBytes (stepField p)) ≡ stepLength
 length-step (wait n) = refl
 length-step (move m) = refl
 
-pub length-bytes : (ps : List Step) → length (stepBytes ps) ≡ stepLength * length ps
+length-bytes : (ps : List Step) → length (stepBytes ps) ≡ stepLength * length ps
 length-bytes [] = refl
 length-bytes (p ∷ ps) =
     length-append (fieldBytes (stepField p)) (stepBytes ps) ∙ omega (arith, length-step p, length-bytes ps)

@@ -2,13 +2,12 @@
 -- Assumes nothing.
 use Prim.Native.Nat.{ℕ, _+_, _*_, _-_, _≤_, _<_}
 use native.Mathlib.Omega.{arith}
-use mathlib.Core.Path.{_≡_, sym, ap, ap₂, _∙_, subst}
-use mathlib.Core.Bool.{Bool, true, false}
+use mathlib.Core.Path.{_≡_, sym, ap, _∙_, subst}
+use mathlib.Core.Bool.{Bool, true}
 use mathlib.Core.List.{List}
 use lib.ListN.{length}
 use lib.Dec.{leb, ltb}
 use Rattle.meaning.specs.Limits.{horizonLimit}
-use Rattle.meaning.specs.Basics.{all}
 use Rattle.meaning.specs.Site.{Sweep, siteOf, motionAt, cellOf, sweepGood}
 use Rattle.meaning.specs.Board.{Free}
 use Rattle.meaning.specs.Plan.{freeFromTo}

@@ -1,7 +1,7 @@
 // The search of a route call on an accepted site: the plan with the least arrival, and its light.
 use light::Head;
+use light_write::CODE_LIMIT;
 use search_sizes::ALLOWED_WORDS;
-use search_sizes::PATH_CODES;
 use site::Sizes;
 use site::Trip;
 ghost use mathlib.Core.Path.{_≡_};
@@ -23,7 +23,7 @@ fn search(
     sizes: Sizes,
     board: &[u8],
     trip: Trip,
-    path: &mut [u16; PATH_CODES],
+    path: &mut [u16; CODE_LIMIT],
 ) -> Traced
     requires { ⌜ Asked (now file) sizes (length (now board)) trip ⌝ }
     ensures { λ r. ⌜ Planned (routeOn (now (file .entry)) (now (board .entry)) trip) (now (path .exit)) r ⌝ }
@@ -78,7 +78,7 @@ pub fn find(file: &[u8], sizes: Sizes, board: &[u8], tug: u8, trip: Trip, out: &
     ensures { λ r. ⌜ r ≡ foundOf (routeOn (now (file .entry)) (now (board .entry)) trip) (lightOn (now (file .entry)) (now (board .entry)) tug trip) ⌝ }
     ensures { λ _. ⌜ now (out .exit) ≡ outOf (routeOn (now (file .entry)) (now (board .entry)) trip) (lightOn (now (file .entry)) (now (board .entry)) tug trip) (now (out .entry)) ⌝ }
 {
-    let mut path = [0u16; PATH_CODES];
+    let mut path = [0u16; CODE_LIMIT];
     match search(file, sizes, board, trip, &mut path) {
         Traced::Steps(count, arrival) => {
             let edition = board::read_edition(board);

@@ -116,7 +116,7 @@ module _ (site : Site) (well : WellFormed site) (f : Free) (a : Node) (n k : ℕ
         ∙ ap (λ (c : ℕ). wordBy (waited site f a j s) (least (arrives site f a j s) 0 c)) count
         ∙ sym (word-next site well f a j s known)
 
-  pub word-right : (s t : ℕ) → s < n → a .tick ≤ t → t ≤ site .horizon → site .horizon ≤ 1000 → wordAt st mv fr al re k (a .tick) s t ≡ reachWord site f a (t - a .tick) s
+  word-right : (s t : ℕ) → s < n → a .tick ≤ t → t ≤ site .horizon → site .horizon ≤ 1000 → wordAt st mv fr al re k (a .tick) s t ≡ reachWord site f a (t - a .tick) s
   unfolding wordAt
   word-right s t below late in-time few =
       decide (ltb (a .tick) t)

@@ -46,7 +46,3 @@ runWords = 25600
 -- numbers of the lists of motions
 abbrev pub listed : ℕ
 listed = 2256
-
--- codes of a path
-abbrev pub pathCodes : ℕ
-pathCodes = 1024

@@ -44,6 +44,3 @@ pub const RUN_WORDS: usize = RUN_ROWS * PADDED_WORDS;
 
 // Numbers of the lists of motions: one a motion, and one a state.
 pub const LISTED: usize = MOTIONS + STATES;
-
-// Codes of a path.
-pub const PATH_CODES: usize = 1024;

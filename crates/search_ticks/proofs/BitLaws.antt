@@ -39,18 +39,18 @@ pub digits : {C : Type 0} (a b : ℕ) → (a % 2 ≡ 0 → b % 2 ≡ 0 → C) �
     → (a % 2 ≡ 1 → b % 2 ≡ 0 → C) → (a % 2 ≡ 1 → b % 2 ≡ 1 → C) → C
 digits a b f g h k = digit a (λ e. digit b (f e) (g e)) (λ e. digit b (h e) (k e))
 
-pub odd-same : (a b : ℕ) → a % 2 ≡ b % 2 → odd a ≡ odd b
+odd-same : (a b : ℕ) → a % 2 ≡ b % 2 → odd a ≡ odd b
 unfolding odd
 odd-same a b e = rw e
 
-pub odd-and : (a b : ℕ) → odd (bitAnd a b) ≡ (odd a && odd b)
+odd-and : (a b : ℕ) → odd (bitAnd a b) ≡ (odd a && odd b)
 odd-and a b = digits a b
     (λ e f. rw (even-of a e) (even-of (bitAnd a b) (rw (and-step a b, e, f) (omega arith))))
     (λ e f. rw (even-of a e) (even-of (bitAnd a b) (rw (and-step a b, e, f) (omega arith))))
     (λ e f. rw (odd-of a e, even-of b f) (even-of (bitAnd a b) (rw (and-step a b, e, f) (omega arith))))
     (λ e f. rw (odd-of a e, odd-of b f) (odd-of (bitAnd a b) (rw (and-step a b, e, f) (omega arith))))
 
-pub odd-or : (a b : ℕ) → odd (bitOr a b) ≡ (odd a || odd b)
+odd-or : (a b : ℕ) → odd (bitOr a b) ≡ (odd a || odd b)
 odd-or a b = digits a b
     (λ e f. rw (even-of a e, even-of b f) (even-of (bitOr a b) (rw (or-step a b, e, f) (omega arith))))
     (λ e f. rw (even-of a e, odd-of b f) (odd-of (bitOr a b) (rw (or-step a b, e, f) (omega arith))))

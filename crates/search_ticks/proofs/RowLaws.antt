@@ -42,12 +42,12 @@ module _ (g : ℕ → ℕ → ℕ) (b : ℕ) where
   map-before zero i l j h = refl
   map-before (suc k) i l j h = map-before k (suc i) _ j (omega arith) ∙ getD-set-other l (b + i) j _ 0 (λ e. omega arith)
 
-  pub map-after : (k i : ℕ) (l : List ℕ) (j : ℕ) → b + i + k ≤ j → getD (mapRow g b k i l) j 0 ≡ getD l j 0
+  map-after : (k i : ℕ) (l : List ℕ) (j : ℕ) → b + i + k ≤ j → getD (mapRow g b k i l) j 0 ≡ getD l j 0
   unfolding mapRow
   map-after zero i l j h = refl
   map-after (suc k) i l j h = map-after k (suc i) _ j (omega arith) ∙ getD-set-other l (b + i) j _ 0 (λ e. omega arith)
 
-  pub map-in : (k i : ℕ) (l : List ℕ) (j : ℕ) → b + i + k ≤ length l → i ≤ j → j < i + k → getD (mapRow g b k i l) (b + j) 0 ≡ g j (getD l (b + j) 0)
+  map-in : (k i : ℕ) (l : List ℕ) (j : ℕ) → b + i + k ≤ length l → i ≤ j → j < i + k → getD (mapRow g b k i l) (b + j) 0 ≡ g j (getD l (b + j) 0)
   unfolding mapRow
   map-in zero i l j n a h = absurd (omega arith)
   map-in (suc k) i l j n a h =
@@ -187,7 +187,7 @@ pub empty-row : (n s t : ℕ) → has (replicate n 0) s t ≡ false
 empty-row n s t = has-is (replicate n 0) s t ∙ ap (λ (w : ℕ). bit w (t % 64)) (zeros-at n (s * 16 + t / 64)) ∙ zero-bit (t % 64)
 
 -- ---- the sum of the words
-pub total-set : (l : List ℕ) (i v : ℕ) → i < length l → total (set l i v) + getD l i 0 ≡ total l + v
+total-set : (l : List ℕ) (i v : ℕ) → i < length l → total (set l i v) + getD l i 0 ≡ total l + v
 unfolding total
 total-set [] i v h = absurd (omega arith)
 total-set (x ∷ l) zero v h = omega arith

@@ -51,7 +51,7 @@ module _ (site : Site) (well : WellFormed site) (f : Free) (a : Node) where
         before = rw same r;
       }
 
-  pub said-wait : (k s : ℕ) → reached site f a k s ≡ true → reachWord site f a k s ≡ 2 → (1 ≤ k) × (reached site f a (k - 1) s ≡ true)
+  said-wait : (k s : ℕ) → reached site f a k s ≡ true → reachWord site f a k s ≡ 2 → (1 ≤ k) × (reached site f a (k - 1) s ≡ true)
   said-wait k s r e = came-wait (came-here site well f a k s r) e
 
   pub said-motion : (k s w : ℕ) → reached site f a k s ≡ true → w ≡ reachWord site f a k s → 1 ≤ k → (w ≡ 2 → ⊥) → ByMotion k w

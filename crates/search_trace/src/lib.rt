@@ -1,14 +1,14 @@
 // The walk back from the goal: the steps of the route, as a stack of codes.
-use search_sizes::PATH_CODES;
+use light_write::CODE_LIMIT;
 ghost use mathlib.Core.Path.{_≡_};
 ghost use mathlib.Core.List.{_∷_};
 ghost use Prim.Native.Nat.{_*_, _≤_, _<_};
 ghost use lib.ListN.{length};
 ghost use Rattle.meaning.specs.Plan.{move};
 ghost use Rattle.meaning.specs.Reach.{waitOne};
-ghost use Rattle.search_sizes.specs.Sizes.{rowWords, motionRows, freeWords, reachedWords, pathCodes};
+ghost use Rattle.search_sizes.specs.Sizes.{rowWords, motionRows, freeWords, reachedWords};
 ghost use Rattle.search_site.specs.Arrays.{States, Motions};
-ghost use Rattle.light_write.specs.Codes.{stepOfCode, stepsIn};
+ghost use Rattle.light_write.specs.Codes.{codeLimit, stepOfCode, stepsIn};
 ghost use Rattle.search_trace.specs.Turns.{waitInFront, Search, Found};
 
 // Puts a code on top.
@@ -21,8 +21,8 @@ fn push(path: &mut [u16], count: usize, code: u16) -> usize
 }
 
 // One more tick of waiting in front of the steps: a wait on top grows by it.
-fn push_wait(path: &mut [u16; PATH_CODES], count: usize) -> usize
-    requires { ⌜ (count < pathCodes) × (waitInFront (stepsIn (now path) count) < 1000) ⌝ }
+fn push_wait(path: &mut [u16; CODE_LIMIT], count: usize) -> usize
+    requires { ⌜ (count < codeLimit) × (waitInFront (stepsIn (now path) count) < 1000) ⌝ }
     ensures { λ r. ⌜ stepsIn (now (path .exit)) r ≡ waitOne (stepsIn (now (path .entry)) count) ⌝ }
 {
     if count == 0 {
@@ -36,8 +36,8 @@ fn push_wait(path: &mut [u16; PATH_CODES], count: usize) -> usize
 }
 
 // The motion m in front of the steps.
-fn push_move(path: &mut [u16; PATH_CODES], count: usize, m: usize) -> usize
-    requires { ⌜ (count < pathCodes) × (m < motionRows) ⌝ }
+fn push_move(path: &mut [u16; CODE_LIMIT], count: usize, m: usize) -> usize
+    requires { ⌜ (count < codeLimit) × (m < motionRows) ⌝ }
     ensures { λ r. ⌜ stepsIn (now (path .exit)) r ≡ move m ∷ stepsIn (now (path .entry)) count ⌝ }
 {
     push(path, count, (m as u16) + light_write::FIRST_MOVE)
@@ -55,7 +55,7 @@ pub fn trace_back(
     tick: usize,
     goal: usize,
     arrival: usize,
-    path: &mut [u16; PATH_CODES],
+    path: &mut [u16; CODE_LIMIT],
 ) -> usize
     requires { ⌜ States n (now states) × Motions k (now moves) ⌝ }
     requires { ⌜ (freeWords ≤ length (now frees)) × ((k * rowWords ≤ length (now allowed)) × (reachedWords ≤ length (now reached))) ⌝ }

@@ -12,7 +12,7 @@ use lib.Dec.{leb, ltb, eqb}
 use borrow.Author.Tests.{leb-true, eqb-true, eqb-false, ltb-true, ltb-false}
 use Rattle.meaning.specs.Limits.{motionLimit, sweepLimit}
 use Rattle.meaning.specs.Basics.{all, u16At}
-use Rattle.meaning.specs.Fields.{Field, listed}
+use Rattle.meaning.specs.Fields.{listed}
 use Rattle.meaning.specs.Site.{Motion, Site, noMotion, siteOf, cellOf, stateCount, isMotion, sweepCount, motionsLaid, motionOf, sweepsOf, endsGood, sweepsGood, motionGood}
 use Rattle.meaning.proofs.BasicsLaws.{decide, and-left, and-right, all-head, all-tail}
 use Rattle.meaning.proofs.SiteFieldsLaws.{motion-parts}
@@ -72,7 +72,7 @@ motion-sweeps file at n k h q e =
     ∙ drop-take 5 (3 * k) (drop (at + 3) file) (omega arith)
     ∙ rw (drop-drop 5 (at + 3) file))
 
-pub motion-here : (file : List ℕ) (at n : ℕ) → n ≡ u16At file (at + 1) → at + 3 + n ≤ length file → isMotion (fieldAt file at) ≡ true → MotionHere file at n
+motion-here : (file : List ℕ) (at n : ℕ) → n ≡ u16At file (at + 1) → at + 3 + n ≤ length file → isMotion (fieldAt file at) ≡ true → MotionHere file at n
 unfolding motionOf
 motion-here file at n h q e =
     let (_, lo, hi, s) = rw (value-length file at n h q) at (motion-parts (fieldAt file at) e) in
@@ -123,10 +123,10 @@ ends-below n a b d e = let (x, y, _, _) = and-four (ltb a n) (ltb b n) (not (eqb
 
 -- ---- the motions from a place on
 
-pub motions-next : (file : List ℕ) (at r : ℕ) → Motions file at → Next file at r → Motions file r
+motions-next : (file : List ℕ) (at r : ℕ) → Motions file at → Next file at r → Motions file r
 motions-next file at r m x = record { inside = x .inside; whole = x .whole; motions = all-tail isMotion _ _ (rw (x .list) at (m .motions)) }
 
-pub motions-first : (file : List ℕ) (at : ℕ) → Motions file at → at < length file → isMotion (fieldAt file at) ≡ true
+motions-first : (file : List ℕ) (at : ℕ) → Motions file at → at < length file → isMotion (fieldAt file at) ≡ true
 motions-first file at m p = let x = next-is file at _ _ (m .whole) p refl refl in all-head isMotion _ _ (rw (x .list) at (m .motions))
 
 -- where the motions of a file start

@@ -4,21 +4,20 @@ use site_layout::Head;
 use site_layout::MOTION_LIMIT;
 ghost use mathlib.Core.Path.{_≡_};
 ghost use mathlib.Core.Bool.{true};
-ghost use mathlib.Core.List.{map};
 ghost use Prim.Native.Nat.{_<_, _≤_};
 ghost use lib.ListN.{length};
 ghost use Rattle.meaning.specs.Basics.{all};
-ghost use Rattle.meaning.specs.Fields.{complete, listed};
+ghost use Rattle.meaning.specs.Fields.{complete};
 ghost use Rattle.meaning.specs.Plan.{node};
 ghost use Rattle.meaning.specs.Calls.{startNamed};
 ghost use Rattle.meaning.specs.Site.{Site, siteOf, stateAt, motionAt, motionOf, isMotion, cellGood, endsGood, motionGood, readSite};
 ghost use Rattle.fields.specs.Places.{fieldsAt, fieldAt};
 ghost use Rattle.site_layout.specs.Laid.{statePlace, HeadIs, Laid, StateValue};
-ghost use Rattle.site.specs.Motions.{MotionIs, Motions, Index};
+ghost use Rattle.site.specs.Motions.{MotionIs, Index};
 ghost use Rattle.site.specs.Check.{sizesOf, checkOf};
 
 // The most bytes of a site file.
-const FILE_LIMIT: usize = 65536;
+pub const FILE_LIMIT: usize = 65536;
 
 // The bytes of the head's field, and of a state's.
 const HEAD_FIELD: usize = FIELD_HEADER + site_layout::HEAD_SIZE;

@@ -234,7 +234,7 @@ pub record StateAt (file : List ℕ) (at n i : ℕ) : Type 0 where
   pub cell : getD (map stateOf (take n (listed (fieldsAt file at)))) i noState .cell ≡ getD file (at + 5 * i + 3) 0
   pub speed : getD (map stateOf (take n (listed (fieldsAt file at)))) i noState .speed ≡ getD file (at + 5 * i + 4) 0
 
-pub state-at : (file : List ℕ) (i at n : ℕ) → i < n → complete (fieldsAt file at) ≡ true → layoutGood n (listed (fieldsAt file at)) ≡ true → StateAt file at n i
+state-at : (file : List ℕ) (i at n : ℕ) → i < n → complete (fieldsAt file at) ≡ true → layoutGood n (listed (fieldsAt file at)) ≡ true → StateAt file at n i
 state-at file i at zero p w e = absurd (omega arith)
 state-at file zero at (suc n) p w e =
     let x = state-here file at (suc n) (omega arith) w e in
@@ -265,7 +265,7 @@ pub record AfterStates (file : List ℕ) (at n : ℕ) : Type 0 where
   pub list : drop n (listed (fieldsAt file at)) ≡ listed (fieldsAt file (at + 5 * n))
   pub motions : motionsLaid (listed (fieldsAt file (at + 5 * n))) ≡ true
 
-pub after-states : (file : List ℕ) (n at : ℕ) → at ≤ length file → complete (fieldsAt file at) ≡ true → layoutGood n (listed (fieldsAt file at)) ≡ true → AfterStates file at n
+after-states : (file : List ℕ) (n at : ℕ) → at ≤ length file → complete (fieldsAt file at) ≡ true → layoutGood n (listed (fieldsAt file at)) ≡ true → AfterStates file at n
 after-states file zero at i w e =
     let a : at + 5 * 0 ≡ at = omega arith in
     record {
@@ -289,20 +289,20 @@ after-states file (suc n) at i w e =
 
 -- ---- a file that is laid out well
 module _ (file : List ℕ) (laid : Laid file) where
-  pub laid-head : HeadHere file
+  laid-head : HeadHere file
   laid-head = head-here file (laid .whole) (laid .head)
 
   pub states-few : stateCount file ≤ stateLimit
   unfolding stateCount
   states-few = head-good (headOf file) (laid .head) .states-range .1
 
-  pub laid-layout : layoutGood (stateCount file) (listed (fieldsAt file 8)) ≡ true
+  laid-layout : layoutGood (stateCount file) (listed (fieldsAt file 8)) ≡ true
   laid-layout = rw (laid-head .later) at (laid .layout)
 
   pub laid-after : AfterStates file 8 (stateCount file)
   laid-after = after-states file (stateCount file) 8 (laid-head .long) (laid-head .whole) laid-layout
 
-  pub laid-states : siteOf file .states ≡ map stateOf (take (stateCount file) (listed (fieldsAt file 8)))
+  laid-states : siteOf file .states ≡ map stateOf (take (stateCount file) (listed (fieldsAt file 8)))
   unfolding siteOf
   laid-states = rw (laid-head .later)
 
@@ -313,7 +313,7 @@ module _ (file : List ℕ) (laid : Laid file) where
   pub laid-count : length (siteOf file .states) ≡ stateCount file
   laid-count = state-number file (laid .layout)
 
-  pub laid-state : (i : ℕ) → i < length (siteOf file .states) → StateAt file 8 (stateCount file) i
+  laid-state : (i : ℕ) → i < length (siteOf file .states) → StateAt file 8 (stateCount file) i
   laid-state i p = let e = laid-count in state-at file i 8 (stateCount file) (omega arith) (laid-head .whole) laid-layout
 
   pub laid-small : (i : ℕ) → i < length (siteOf file .states) → i < 65536

@@ -1,7 +1,6 @@
 -- `checks::check_board` meets its contract.
 -- Assumes nothing.
 use Prim.Native.Nat.{_+_, _*_}
-use native.Mathlib.Omega.{arith}
 use mathlib.Core.Path.{_≡_, sym, ap, _∙_}
 use borrow.Author.Needs.{needs}
 use Rattle.meaning.specs.Limits.{header}

@@ -1,6 +1,5 @@
 -- `checks_board::close_refusal` meets its contract: each return is the first check that applies, past those before it.
 -- Assumes nothing.
-use Prim.Native.Nat.{ℕ}
 use mathlib.Core.Path.{_≡_, sym, ap, _∙_}
 use mathlib.Core.Bool.{true, not}
 use mathlib.Core.List.{List}

@@ -1,7 +1,6 @@
 -- `checks_board::run_named` meets its contract.
 -- Assumes nothing.
 use native.Mathlib.Omega.{arith}
-use borrow.Author.Needs.{needs}
 use Rattle.checks_board.proofs.Laws.{cells-of, horizon-of, no-cell, first-late, last-late, in-order}
 use Rattle.checks_board.proofs.run_named.Statement.{statement}
 use Rattle.checks_board.proofs.run_named.Tie as tie

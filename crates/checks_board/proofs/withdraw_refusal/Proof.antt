@@ -1,6 +1,6 @@
 -- `checks_board::withdraw_refusal` meets its contract: each return is the first check that applies, past those before it.
 -- Assumes nothing.
-use mathlib.Core.Path.{_≡_, sym, _∙_}
+use mathlib.Core.Path.{sym, _∙_}
 use mathlib.Core.List.{List}
 use borrow.Author.Needs.{needs}
 use Rattle.meaning.specs.Answers.{Refusal}

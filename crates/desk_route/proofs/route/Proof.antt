@@ -3,12 +3,11 @@
 use Prim.Native.Nat.{ℕ}
 use native.Mathlib.Omega.{arith}
 use mathlib.Core.Path.{_≡_, refl, sym, ap, _∙_}
-use mathlib.Core.List.{List}
 use lib.ListN.{length, replicate}
 use borrow.Author.Needs.{needs}
 use Rattle.meaning.specs.Answers.{lowest}
 use Rattle.meaning.specs.Site.{siteOf}
-use Rattle.meaning.specs.Calls.{opening, refusals, wordsNeeded, over, Lent, lends, onBoard, roomOf}
+use Rattle.meaning.specs.Calls.{opening, refusals, wordsNeeded, over, lends, onBoard, roomOf}
 use Rattle.meaning.specs.Plan.{node}
 use Rattle.site.specs.Ready.{Ready}
 use Rattle.site.specs.declared.Check.the-variants.{Passed}

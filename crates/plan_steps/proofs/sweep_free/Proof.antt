@@ -7,7 +7,6 @@ use Rattle.meaning.specs.Board.{free}
 use Rattle.meaning.specs.Plan.{freeFromTo}
 use Rattle.plan_steps.proofs.Laws.{known}
 use native.Mathlib.Omega.{arith}
-use borrow.Author.Needs.{needs}
 use Rattle.plan_steps.proofs.sweep_free.Statement.{statement}
 use Rattle.plan_steps.proofs.sweep_free.Tie as tie
 

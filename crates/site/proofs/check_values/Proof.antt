@@ -4,7 +4,7 @@ use Prim.Native.Nat.{ℕ}
 use mathlib.Core.Path.{_≡_, sym, ap, _∙_}
 use borrow.Author.Tests.{not-true, not-false}
 use Rattle.meaning.specs.Basics.{all}
-use Rattle.meaning.specs.Site.{siteOf, cellGood, motionGood}
+use Rattle.meaning.specs.Site.{siteOf, cellGood}
 use Rattle.site_layout.specs.Laid.{statePlace}
 use Rattle.site_layout.proofs.Laws.{states-few}
 use Rattle.site.proofs.NumberLaws.{number-5, number-6, number-0, count-is, motions-start, motions-count, accepted-is}
