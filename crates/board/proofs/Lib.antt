@@ -1,4 +1,2 @@
-pub mod SortLaws
 pub mod EditionLaws
 pub mod HolderLaws
-pub mod TickLaws

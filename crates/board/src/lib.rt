@@ -1,15 +1,11 @@
-// The board: how a byte sorts, the edition, which ticks of a cell are free, who stands, and what is written.
+// The board as a whole: its length, the edition, who stands, and what is written.
 ghost use mathlib.Core.Path.{_≡_};
 ghost use mathlib.Core.Bool.{cond, _&&_};
 ghost use Prim.Native.Nat.{_+_, _*_, _<_, _≤_};
 ghost use lib.Dec.{eqb};
 ghost use lib.ListN.{length, replicate};
 ghost use Rattle.meaning.specs.Limits.{horizonLimit, cellLimit, header, lastEdition};
-ghost use Rattle.meaning.specs.Site.{Site};
-ghost use Rattle.meaning.specs.Board.{sortOf, isTug, isClosure, isHolder, edition, withEdition, nextEdition, free, stands, mark, runTo, clear};
-ghost use Rattle.meaning.specs.Plan.{freeFromTo};
-ghost use Rattle.board.specs.Sorts.{sortCase};
-ghost use Rattle.board.specs.Runs.{Row};
+ghost use Rattle.meaning.specs.Board.{isHolder, edition, withEdition, nextEdition, stands, clear};
 
 // The bytes of the edition, which stand before those of the cells.
 pub const HEADER: usize = 4;
@@ -17,71 +13,11 @@ pub const HEADER: usize = 4;
 // The edition after which no call changes the board.
 pub const LAST_EDITION: u32 = 4294967295;
 
-// Who holds a byte's pair.
-pub enum Sort {
-    Free,
-    Tug,
-    Closure,
-    Unknown,
-}
-
-// How a byte of the board sorts.
-pub fn sort_of(b: u8) -> Sort
-    ensures { λ r. ⌜ sortCase r ≡ sortOf b ⌝ }
-{
-    match b {
-        0 => Sort::Free,
-        1..=199 => Sort::Tug,
-        200..=254 => Sort::Closure,
-        _ => Sort::Unknown,
-    }
-}
-
-// A byte whose pair nobody holds.
-pub fn is_free_byte(b: u8) -> bool
-    ensures { λ r. ⌜ r ≡ eqb b 0 ⌝ }
-{
-    match sort_of(b) {
-        Sort::Free => true,
-        _ => false,
-    }
-}
-
-// A tug's number, 1 to 199.
-pub fn is_tug(h: u8) -> bool
-    ensures { λ r. ⌜ r ≡ isTug h ⌝ }
-{
-    match sort_of(h) {
-        Sort::Tug => true,
-        _ => false,
-    }
-}
-
-// A closure's number, 200 to 254.
-pub fn is_closure(h: u8) -> bool
-    ensures { λ r. ⌜ r ≡ isClosure h ⌝ }
-{
-    match sort_of(h) {
-        Sort::Closure => true,
-        _ => false,
-    }
-}
-
-// A number that may stand on the board, 1 to 254.
-pub fn is_holder(h: u8) -> bool
-    ensures { λ r. ⌜ r ≡ isHolder h ⌝ }
-{
-    match sort_of(h) {
-        Sort::Tug | Sort::Closure => true,
-        _ => false,
-    }
-}
-
 // Does the byte carry the holder's number? A byte that sorts as free or unknown carries none.
 fn carries(b: u8, h: u8) -> bool
     ensures { λ r. ⌜ r ≡ (isHolder b && eqb b h) ⌝ }
 {
-    is_holder(b) & (b == h)
+    board_sorts::is_holder(b) & (b == h)
 }
 
 // ---- the edition: four bytes, high byte first
@@ -173,43 +109,5 @@ pub fn clear_holder(board: &mut [u8], h: u8)
     while i < board.len() {
         board[i] = withdrawn(board[i], h);
         i += 1;
-    }
-}
-
-// ---- ticks of a cell
-
-// Is the cell free at the tick?
-pub fn is_free(board: &[u8], horizon: usize, cell: usize, tick: usize) -> bool
-    requires { ⌜ Row (length (now board)) horizon cell tick ⌝ }
-    ensures { λ r. ⌜ ((site : Site) → site .horizon ≡ horizon → cell < site .cells → r ≡ free site (now (board .entry)) cell tick) ⌝ }
-{
-    is_free_byte(board[HEADER + cell * (horizon + 1) + tick])
-}
-
-// Is the cell free from the tick first to the tick last, both included?
-pub fn run_free(board: &[u8], horizon: usize, cell: usize, first: usize, last: usize) -> bool
-    requires { ⌜ Row (length (now board)) horizon cell last ⌝ }
-    ensures { λ r. ⌜ ((site : Site) → site .horizon ≡ horizon → cell < site .cells → r ≡ freeFromTo (free site (now (board .entry))) cell first last) ⌝ }
-{
-    let mut t = first;
-    while t <= last {
-        if !is_free(board, horizon, cell, t) {
-            return false;
-        }
-        t += 1;
-    }
-    true
-}
-
-// Writes the holder's number over the cell's ticks first to last, both included.
-pub fn mark_run(board: &mut [u8], horizon: usize, cell: usize, first: usize, last: usize, h: u8)
-    requires { ⌜ Row (length (now board)) horizon cell last ⌝ }
-    ensures { λ _. ⌜ ((site : Site) → site .horizon ≡ horizon → now (board .exit) ≡ mark site h (runTo cell first last) (now (board .entry))) ⌝ }
-{
-    let row = HEADER + cell * (horizon + 1);
-    let mut tick = first;
-    while tick <= last {
-        board[row + tick] = h;
-        tick += 1;
     }
 }

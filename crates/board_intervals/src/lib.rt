@@ -7,7 +7,7 @@ ghost use Rattle.meaning.specs.Site.{Site};
 ghost use Rattle.meaning.specs.Board.{free};
 ghost use Rattle.meaning.specs.Intervals.{begins, runEnd, intervals, numbersOf};
 ghost use Rattle.meaning.specs.Calls.{over};
-ghost use Rattle.board.specs.Runs.{Row};
+ghost use Rattle.board_ticks.specs.Runs.{Row};
 
 // Does an interval begin at the tick?
 fn begins_at(board: &[u8], horizon: usize, cell: usize, t: usize) -> bool
@@ -15,12 +15,12 @@ fn begins_at(board: &[u8], horizon: usize, cell: usize, t: usize) -> bool
     ensures { λ r. ⌜ ((site : Site) → site .horizon ≡ horizon → cell < site .cells → r ≡ begins (free site (now (board .entry)) cell) t) ⌝ }
 {
     if t == 0 {
-        return board::is_free(board, horizon, cell, t);
+        return board_ticks::is_free(board, horizon, cell, t);
     }
-    if board::is_free(board, horizon, cell, t - 1) {
+    if board_ticks::is_free(board, horizon, cell, t - 1) {
         return false;
     }
-    board::is_free(board, horizon, cell, t)
+    board_ticks::is_free(board, horizon, cell, t)
 }
 
 // The last tick of the run of free ticks from the tick first on.
@@ -31,7 +31,7 @@ fn run_end(board: &[u8], horizon: usize, cell: usize, first: usize) -> usize
 {
     let mut t = first;
     while t + 1 <= horizon {
-        if !board::is_free(board, horizon, cell, t + 1) {
+        if !board_ticks::is_free(board, horizon, cell, t + 1) {
             return t;
         }
         t += 1;

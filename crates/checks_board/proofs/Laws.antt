@@ -21,9 +21,9 @@ use Rattle.meaning.proofs.SiteLaws.{read-well}
 use Rattle.site.specs.Check.{sizesOf}
 use Rattle.site.specs.Ready.{Ready}
 use Rattle.site.specs.declared.Sizes.{Sizes}
-use Rattle.board.specs.Runs.{Row}
+use Rattle.board_ticks.specs.Runs.{Row}
 use Rattle.board.proofs.EditionLaws.{edition-clear, next-mark, next-clear}
-use Rattle.board.proofs.TickLaws.{row-on}
+use Rattle.board_ticks.proofs.TickLaws.{row-on}
 use Rattle.checks.proofs.Laws.{Editable}
 use Rattle.checks.proofs.Passed.{later-passed}
 

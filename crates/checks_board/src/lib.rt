@@ -11,7 +11,7 @@ ghost use Rattle.meaning.specs.Board.{edition};
 ghost use Rattle.meaning.specs.Calls.{close, withdraw, changed, runNamed, bytesView, closeRefusals, withdrawRefusals, intervalRefusals, Room};
 ghost use Rattle.site.specs.Check.{sizesOf};
 ghost use Rattle.site.specs.Ready.{Ready};
-ghost use Rattle.board.specs.Runs.{Row};
+ghost use Rattle.board_ticks.specs.Runs.{Row};
 
 // ---- interval
 
@@ -52,7 +52,7 @@ pub fn close_refusal(board: &[u8], l: Sizes, holder: u8, cell: u16, first: u16, 
     requires { ⌜ ((file : List ℕ) × Ready file (length (now board)) l) ⌝ }
     ensures { λ r. ⌜ ((site : Site) → l ≡ sizesOf site → r ≡ lowest (closeRefusals site (bytesView site (now (board .entry))) holder cell first last)) ⌝ }
 {
-    if !board::is_closure(holder) {
+    if !board_sorts::is_closure(holder) {
         return 9;
     }
     if !run_named(l, cell, first, last) {
@@ -64,7 +64,7 @@ pub fn close_refusal(board: &[u8], l: Sizes, holder: u8, cell: u16, first: u16, 
     if checks::at_last_edition(board) {
         return 15;
     }
-    if !board::run_free(
+    if !board_ticks::run_free(
         board,
         l.horizon,
         cell as usize,
@@ -81,7 +81,7 @@ pub fn close_work(board: &mut [u8], horizon: usize, holder: u8, cell: u16, first
     requires { ⌜ Row (length (now board)) horizon cell last × (edition (now board) < lastEdition) ⌝ }
     ensures { λ _. ⌜ ((site : Site) → site .horizon ≡ horizon → now (board .exit) ≡ changed site (now (board .entry)) (close holder cell first last)) ⌝ }
 {
-    board::mark_run(
+    board_ticks::mark_run(
         board,
         horizon,
         cell as usize,
@@ -99,7 +99,7 @@ pub fn withdraw_refusal(board: &[u8], holder: u8) -> u8
     requires { ⌜ header ≤ length (now board) ⌝ }
     ensures { λ r. ⌜ ((site : Site) → r ≡ lowest (withdrawRefusals (bytesView site (now (board .entry))) holder)) ⌝ }
 {
-    if !board::is_holder(holder) {
+    if !board_sorts::is_holder(holder) {
         return 9;
     }
     if !board::holder_stands(board, holder) {

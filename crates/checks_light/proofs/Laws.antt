@@ -18,7 +18,7 @@ use Rattle.meaning.proofs.CallLaws.{named-goal}
 use Rattle.site_layout.specs.Laid.{statePlace, Laid}
 use Rattle.site.specs.Ready.{Ready}
 use Rattle.site.specs.declared.Sizes.{Sizes}
-use Rattle.site.proofs.ReadLaws.{read-laid}
+use Rattle.site_read.proofs.Laws.{read-laid}
 use Rattle.board.proofs.EditionLaws.{next-mark}
 use Rattle.checks.proofs.Passed.{later-passed, edition-below}
 use Rattle.checks_light.specs.Work.{Postable}

@@ -25,7 +25,7 @@ fn edition_refusal(file: &[u8], board: &[u8], l: Sizes, light: &[u8], wanted: u3
     if other {
         return 16;
     }
-    let index = site::motion_index(file, l.start, l.motions);
+    let index = site_read::motion_index(file, l.start, l.motions);
     if !plan_check::light_valid(file, board, l, &index, light) {
         return 17;
     }
@@ -41,13 +41,13 @@ pub fn light_refusal(file: &[u8], board: &[u8], l: Sizes, light: &[u8]) -> u8
         return 8;
     }
     let head = light_read::read_head(light);
-    if !board::is_tug(head.tug) {
+    if !board_sorts::is_tug(head.tug) {
         return 9;
     }
     if !plan_check::light_named(l, light) {
         return 10;
     }
-    if site::state_speed(file, head.goal as usize) != 0 {
+    if site_read::state_speed(file, head.goal as usize) != 0 {
         return 11;
     }
     if board::holder_stands(board, head.tug) {
@@ -61,7 +61,7 @@ pub fn post_work(file: &[u8], board: &mut [u8], l: Sizes, light: &[u8])
     requires { ⌜ Postable (now file) (now board) l (now light) ⌝ }
     ensures { λ _. ⌜ now (board .exit) ≡ changed (siteOf (now (file .entry))) (now (board .entry)) (post (now (light .entry))) ⌝ }
 {
-    let index = site::motion_index(file, l.start, l.motions);
+    let index = site_read::motion_index(file, l.start, l.motions);
     plan_mark::mark_light(file, board, l, &index, light);
     board::next_edition(board);
 }

@@ -45,13 +45,13 @@ pub fn route_refusal(
     requires { ⌜ Ready (now file) (length (now board)) l ⌝ }
     ensures { λ r. ⌜ ((areas : Room) → areas .out ≡ «out_len» → areas .words ≡ «work_len» → r ≡ lowest (routeChecks (siteOf (now (file .entry))) (bytesView (siteOf (now (file .entry))) (now (board .entry))) areas tug (node (trip .start) (trip .tick)) (trip .goal))) ⌝ }
 {
-    if !board::is_tug(tug) {
+    if !board_sorts::is_tug(tug) {
         return 9;
     }
     if !site::trip_named(l, trip) {
         return 10;
     }
-    if site::state_speed(file, trip.goal as usize) != 0 {
+    if site_read::state_speed(file, trip.goal as usize) != 0 {
         return 11;
     }
     if board::holder_stands(board, tug) {

@@ -21,7 +21,7 @@ ghost use Rattle.meaning.specs.Light.{isLight, lightOf};
 ghost use Rattle.meaning.specs.Calls.{isAt, lightValid, startNamed, stepNamed, lightNamed};
 ghost use Rattle.light_read.specs.Steps.{laidFrom, stepsFrom};
 ghost use Rattle.site.specs.Check.{sizesOf};
-ghost use Rattle.site.specs.Motions.{Index};
+ghost use Rattle.site_read.specs.Motions.{Index};
 ghost use Rattle.site.specs.Ready.{Ready};
 ghost use Rattle.plan_steps.specs.Nodes.{nodeOf, Here};
 ghost use Rattle.plan_check.specs.Walks.{walkEndCase, startIn};
@@ -42,8 +42,8 @@ fn start_free(file: &[u8], board: &[u8], sizes: Sizes, a: Node) -> bool
         return false;
     }
     if time::in_time(a.tick, sizes.horizon) {
-        let cell = site::state_cell(file, state);
-        board::is_free(board, sizes.horizon, cell, time::number(a.tick))
+        let cell = site_read::state_cell(file, state);
+        board_ticks::is_free(board, sizes.horizon, cell, time::number(a.tick))
     } else {
         false
     }
@@ -99,7 +99,7 @@ fn walk_steps(
                 if sizes.motions <= k as usize {
                     return WalkEnd::NotAllowed;
                 }
-                let m = site::motion_at(file, index, k as usize);
+                let m = site_read::motion_at(file, index, k as usize);
                 if !plan_steps::move_allowed(file, board, sizes, m, here) {
                     return WalkEnd::NotAllowed;
                 }

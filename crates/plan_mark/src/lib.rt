@@ -1,9 +1,9 @@
 // Marking: writes a tug's number over the pairs that a light's plan holds.
 use light_read::Step;
 use plan_steps::Node;
-use site::Motion;
 use site::Sizes;
 use site_layout::MOTION_LIMIT;
+use site_read::Motion;
 use site_sweeps::Sweep;
 use time::Span;
 use time::Tick;
@@ -18,7 +18,7 @@ ghost use Rattle.meaning.specs.Light.{isLight, lightOf};
 ghost use Rattle.meaning.specs.Calls.{lightValid, lightPairs};
 ghost use Rattle.site_sweeps.specs.Places.{sweepsAt};
 ghost use Rattle.light_read.specs.Steps.{laidFrom, stepsFrom};
-ghost use Rattle.site.specs.Motions.{Index};
+ghost use Rattle.site_read.specs.Motions.{Index};
 ghost use Rattle.site.specs.Ready.{Ready};
 ghost use Rattle.plan_steps.specs.Sweeps.{Sweeps, Swept};
 ghost use Rattle.plan_steps.specs.Nodes.{nodeOf, Here};
@@ -30,7 +30,7 @@ fn mark_sweep(file: &[u8], board: &mut [u8], sizes: Sizes, w: Sweep, t: Tick, tu
     ensures { λ _. ⌜ now (board .exit) ≡ mark (siteOf (now (file .entry))) tug (runTo (w .cell) (t .0 + w .first) (t .0 + w .last)) (now (board .entry)) ⌝ }
 {
     let ticks = plan_steps::swept_ticks(w, t);
-    board::mark_run(board, sizes.horizon, w.cell, ticks.first, ticks.last, tug);
+    board_ticks::mark_run(board, sizes.horizon, w.cell, ticks.first, ticks.last, tug);
 }
 
 // Marks each swept cell of the motion while the motion uses it, where it starts at `t`.
@@ -60,9 +60,9 @@ fn mark_wait(file: &[u8], board: &mut [u8], sizes: Sizes, a: Node, n: Span, tug:
     requires { ⌜ Ready (now file) (length (now board)) sizes × Here (now file) a × (a .tick .0 + n .0 ≤ siteOf (now file) .horizon) ⌝ }
     ensures { λ _. ⌜ now (board .exit) ≡ mark (siteOf (now (file .entry))) tug (stepPairs (siteOf (now (file .entry))) (wait (n .0)) (nodeOf a)) (now (board .entry)) ⌝ }
 {
-    let cell = site::state_cell(file, a.state);
+    let cell = site_read::state_cell(file, a.state);
     let last = time::after(a.tick, n);
-    board::mark_run(
+    board_ticks::mark_run(
         board,
         sizes.horizon,
         cell,
@@ -98,7 +98,7 @@ fn mark_steps(
                 at = next;
             }
             Step::Move(k, next) => {
-                let m = site::motion_at(file, index, k as usize);
+                let m = site_read::motion_at(file, index, k as usize);
                 mark_sweeps(file, board, sizes, m, here.tick, tug);
                 here = plan_steps::after_move(m, here.tick);
                 at = next;

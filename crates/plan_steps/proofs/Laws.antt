@@ -20,11 +20,11 @@ use Rattle.site_sweeps.specs.Places.{sweepAt, sweepsAt, SweepIs}
 use Rattle.site_sweeps.specs.declared.Sweep as ReadSweep
 use Rattle.site_sweeps.proofs.Laws.{sweeps-length, sweeps-at}
 use Rattle.site.specs.declared.Sizes.{Sizes}
-use Rattle.site.specs.declared.Motion as ReadMotion
-use Rattle.site.specs.Motions.{MotionIs}
-use Rattle.site.proofs.ReadLaws.{read-laid}
-use Rattle.board.specs.Runs.{Row}
-use Rattle.board.proofs.TickLaws.{row-on}
+use Rattle.site_read.specs.declared.Motion as ReadMotion
+use Rattle.site_read.specs.Motions.{MotionIs}
+use Rattle.site_read.proofs.Laws.{read-laid}
+use Rattle.board_ticks.specs.Runs.{Row}
+use Rattle.board_ticks.proofs.TickLaws.{row-on}
 use Rattle.site.specs.Ready.{Ready}
 use Rattle.plan_steps.specs.Sweeps.{Sweeps, Swept}
 

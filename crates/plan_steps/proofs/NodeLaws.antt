@@ -8,8 +8,8 @@ use lib.ListN.{length}
 use Rattle.meaning.specs.Site.{siteOf, motionAt}
 use Rattle.meaning.specs.Plan as Plan
 use Rattle.meaning.specs.Plan.{wait, move, after}
-use Rattle.site.specs.declared.Motion as ReadMotion
-use Rattle.site.specs.Motions.{MotionIs}
+use Rattle.site_read.specs.declared.Motion as ReadMotion
+use Rattle.site_read.specs.Motions.{MotionIs}
 use Rattle.plan_steps.specs.declared.Node.{Node}
 use Rattle.plan_steps.specs.Nodes.{nodeOf, Here}
 

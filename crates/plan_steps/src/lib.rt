@@ -1,6 +1,6 @@
 // Steps of a plan: is a wait or a motion allowed on the board, and where does it lead.
-use site::Motion;
 use site::Sizes;
+use site_read::Motion;
 use site_sweeps::Sweep;
 use time::Span;
 use time::Tick;
@@ -11,7 +11,7 @@ ghost use Rattle.meaning.specs.Site.{siteOf, motionAt};
 ghost use Rattle.meaning.specs.Board.{free};
 ghost use Rattle.meaning.specs.Plan.{freeFromTo, sweepsFree, wait, move, allowed};
 ghost use Rattle.site_sweeps.specs.Places.{sweepsAt};
-ghost use Rattle.site.specs.Motions.{MotionIs};
+ghost use Rattle.site_read.specs.Motions.{MotionIs};
 ghost use Rattle.site.specs.Ready.{Ready};
 ghost use Rattle.plan_steps.specs.Sweeps.{Sweeps, Swept};
 ghost use Rattle.plan_steps.specs.Nodes.{nodeOf, Here};
@@ -45,7 +45,7 @@ fn sweep_free(file: &[u8], board: &[u8], sizes: Sizes, w: Sweep, t: Tick) -> boo
     ensures { λ r. ⌜ r ≡ freeFromTo (free (siteOf (now (file .entry))) (now (board .entry))) (w .cell) (t .0 + w .first) (t .0 + w .last) ⌝ }
 {
     let ticks = swept_ticks(w, t);
-    board::run_free(board, sizes.horizon, w.cell, ticks.first, ticks.last)
+    board_ticks::run_free(board, sizes.horizon, w.cell, ticks.first, ticks.last)
 }
 
 // Each swept cell of the motion is free while the motion uses it, where it starts at `t`.
@@ -81,13 +81,13 @@ pub fn wait_allowed(file: &[u8], board: &[u8], sizes: Sizes, a: Node, n: Span) -
         return false;
     }
     let state = a.state;
-    if site::state_speed(file, state) != 0 {
+    if site_read::state_speed(file, state) != 0 {
         return false;
     }
     let last = time::after(a.tick, n);
     if time::in_time(last, sizes.horizon) {
-        let cell = site::state_cell(file, state);
-        board::run_free(
+        let cell = site_read::state_cell(file, state);
+        board_ticks::run_free(
             board,
             sizes.horizon,
             cell,

@@ -20,7 +20,7 @@ fn free_bit(b: u8) -> u64
     ensures { λ r. ⌜ r ≡ freeBit b ⌝ }
     ensures { λ r. ⌜ r ≤ 1 ⌝ }
 {
-    if board::is_free_byte(b) { 1 } else { 0 }
+    if board_sorts::is_free_byte(b) { 1 } else { 0 }
 }
 
 // The n bytes of the board from `start` on as bits: set where the byte is 0.

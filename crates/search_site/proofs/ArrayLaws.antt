@@ -9,7 +9,7 @@ use lib.ListN.{length, getD, set, length-set}
 use lib.Seq.{getD-set-same, getD-set-other}
 use lib.Dec.{eqb}
 use borrow.Author.Tests.{eqb-true, eqb-false}
-use Rattle.site.specs.declared.Motion as ReadMotion
+use Rattle.site_read.specs.declared.Motion as ReadMotion
 use Rattle.search_site.specs.Decoded.{setTwo, setMotion, motionIn}
 
 -- ---- stores at rising places

@@ -14,8 +14,8 @@ use Rattle.meaning.proofs.MotionLaws.{good-at, cell-known}
 use Rattle.search_sizes.specs.Sizes.{stateNumbers, motionNumbers}
 use Rattle.site_sweeps.specs.Places.{sweepAt}
 use Rattle.site_sweeps.proofs.Laws.{sweeps-length, sweeps-at}
-use Rattle.site.specs.declared.Motion as ReadMotion
-use Rattle.site.specs.Motions.{MotionIs}
+use Rattle.site_read.specs.declared.Motion as ReadMotion
+use Rattle.site_read.specs.Motions.{MotionIs}
 use Rattle.search_site.specs.Arrays.{States, Motions}
 use Rattle.search_site.specs.Decoded.{Decoded, SweepsIn, Sweeps, StatesDecoded, FitsU16, motionIn, MotionsDecoded}
 

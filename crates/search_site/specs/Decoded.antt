@@ -7,8 +7,8 @@ use lib.ListN.{length, set}
 use Rattle.meaning.specs.Site.{Site, Sweep, siteOf, stateAt, motionAt}
 use Rattle.search_sizes.specs.Sizes.{cellRows}
 use Rattle.site_sweeps.specs.Places.{sweepAt, sweepsAt}
-use Rattle.site.specs.Motions.{MotionIs}
-use Rattle.site.specs.declared.Motion as ReadMotion
+use Rattle.site_read.specs.Motions.{MotionIs}
+use Rattle.site_read.specs.declared.Motion as ReadMotion
 use Rattle.search_site.specs.Arrays.{cellAt, speedAt, fromAt, toAt, spanAt, placeAt, countAt}
 
 -- the sweeps of motion m

@@ -3,7 +3,7 @@ use search_sizes::MOTION_NUMBERS;
 use search_sizes::MOTION_SIZE;
 use search_sizes::STATE_NUMBERS;
 use search_sizes::STATE_SIZE;
-use site::Motion;
+use site_read::Motion;
 ghost use mathlib.Core.Path.{_≡_};
 ghost use Prim.Native.Nat.{_*_, _<_};
 ghost use lib.ListN.{length};
@@ -100,8 +100,8 @@ pub fn decode_states(file: &[u8], count: usize) -> [u16; STATE_NUMBERS]
     let mut states = [0u16; STATE_NUMBERS];
     let mut s = 0;
     while s < count {
-        let cell = site::state_cell(file, s);
-        let speed = site::state_speed(file, s);
+        let cell = site_read::state_cell(file, s);
+        let speed = site_read::state_speed(file, s);
         put_state(&mut states, s, cell, speed);
         s += 1;
     }
@@ -126,11 +126,11 @@ pub fn decode_moves(file: &[u8], start: usize, count: usize) -> [u16; MOTION_NUM
     requires { ⌜ count ≡ length (siteOf (now file) .motions) ⌝ }
     ensures { λ r. ⌜ MotionsDecoded (now (file .entry)) r ⌝ }
 {
-    let index = site::motion_index(file, start, count);
+    let index = site_read::motion_index(file, start, count);
     let mut moves = [0u16; MOTION_NUMBERS];
     let mut m = 0;
     while m < count {
-        put_move(&mut moves, m, site::motion_at(file, &index, m));
+        put_move(&mut moves, m, site_read::motion_at(file, &index, m));
         m += 1;
     }
     moves

@@ -1,4 +1,3 @@
-pub mod Laws
-pub mod NumberLaws
+mod NumberLaws
 pub mod ReadLaws
-pub mod TripLaws
+mod TripLaws

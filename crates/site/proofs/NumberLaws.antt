@@ -16,9 +16,9 @@ use Rattle.site_layout.specs.Laid.{statePlace, HeadIs, Laid}
 use Rattle.site_layout.specs.declared.Head.{Head}
 use Rattle.site_layout.proofs.Laws.{HeadHere, laid-count}
 use Rattle.site.specs.declared.Check.the-variants.{Passed, Refused}
-use Rattle.site.specs.Motions.{Motions}
+use Rattle.site_read.specs.Motions.{Motions}
 use Rattle.site.specs.Check.{checkOf, sizesOf}
-use Rattle.site.proofs.Laws.{laid-start}
+use Rattle.site_read.proofs.Laws.{laid-start}
 
 refused-by : (file : List ℕ) (n : ℕ) → lowest (siteRefusals file) ≡ suc n → checkOf (readSite file) ≡ Refused (suc n)
 unfolding readSite answer checkOf

@@ -6,15 +6,10 @@ use mathlib.Core.List.{List}
 use native.Mathlib.Omega.{arith}
 use Rattle.meaning.specs.Answers.{Answer, accepted, refused}
 use Rattle.meaning.specs.Site.{Site, siteOf, readSite}
-use Rattle.meaning.proofs.SiteLaws.{read-site, read-passes}
-use Rattle.site_layout.specs.Laid.{Laid}
+use Rattle.meaning.proofs.SiteLaws.{read-site}
 use Rattle.site.specs.declared.Sizes.{Sizes}
 use Rattle.site.specs.declared.Check.the-variants.{Passed, Refused}
 use Rattle.site.specs.Check.{checkOf, sizesOf}
-
--- a file that is read is laid out well
-pub read-laid : (file : List ℕ) (site : Site) → readSite file ≡ accepted site → Laid file
-read-laid file site e = let p = read-passes file site e in record { whole = p .whole; head = p .head; layout = p .layout }
 
 -- the accepted answer: the file is read as its site, and the answer says the site's counts
 module _ (file : List ℕ) (l : Sizes) (e : Passed l ≡ checkOf (readSite file)) where

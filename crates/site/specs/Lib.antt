@@ -1,3 +1,2 @@
-pub mod Motions
 pub mod Check
 pub mod Ready

@@ -11,7 +11,7 @@ use Rattle.meaning.specs.Board.{free, runTo, allFree}
 use Rattle.meaning.specs.Calls.{runNamed, bytesView, closeRefusals}
 use Rattle.meaning.proofs.CheckLaws.{hit, miss, none-left}
 use Rattle.site.specs.Check.{sizesOf}
-use Rattle.board.proofs.TickLaws.{run-to-free}
+use Rattle.board_ticks.proofs.TickLaws.{run-to-free}
 use Rattle.checks.proofs.Laws.{negated, Past}
 use Rattle.checks_board.proofs.Laws.{horizon-of, ready-row, named-cell, named-last}
 use Rattle.checks_board.proofs.close_refusal.Statement.{statement}

@@ -12,7 +12,7 @@ use Rattle.meaning.specs.Calls.{startNamed, bytesView, routeRefusals, Room}
 use Rattle.meaning.specs.Plan.{node}
 use Rattle.meaning.proofs.CheckLaws.{hit, miss, none-left}
 use Rattle.meaning.proofs.CallLaws.{named-goal}
-use Rattle.site.proofs.ReadLaws.{read-laid}
+use Rattle.site_read.proofs.Laws.{read-laid}
 use Rattle.checks.proofs.Laws.{negated, Past}
 use Rattle.checks_route.specs.Checks.{roomEnough, routeChecks}
 use Rattle.checks_route.proofs.Laws.{ready-small}

@@ -6,7 +6,7 @@ use mathlib.Core.List.{List}
 use lib.ListN.{length}
 use native.Mathlib.Omega.{arith}
 use Rattle.meaning.proofs.SiteLaws.{read-passes}
-use Rattle.site.proofs.ReadLaws.{read-laid}
+use Rattle.site_read.proofs.Laws.{read-laid}
 use Rattle.search_site.specs.Decoded.{MotionDecoded, motionIn}
 use Rattle.search_site.proofs.ArrayLaws.{motions-more, set-motion-length}
 use Rattle.search_site.proofs.DecodedLaws.{well, motion-fits}

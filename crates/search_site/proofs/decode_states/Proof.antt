@@ -4,7 +4,7 @@ use Prim.Native.Nat.{ℕ, _+_, _*_, _-_, _≤_, _<_}
 use mathlib.Core.Path.{_≡_, refl, sym, ap, _∙_, subst}
 use mathlib.Core.List.{List}
 use lib.ListN.{length}
-use Rattle.site.proofs.ReadLaws.{read-laid}
+use Rattle.site_read.proofs.Laws.{read-laid}
 use Rattle.search_site.specs.Arrays.{cellAt, speedAt}
 use Rattle.search_site.specs.Decoded.{StateDecoded}
 use Rattle.search_site.proofs.ArrayLaws.{states-more, set-two-length}
