@@ -23,7 +23,8 @@ use Rattle.checks.proofs.Laws.{refused-number}
 use Rattle.checks.proofs.Passed.{ready}
 use Rattle.checks_route.proofs.RouteLaws as routes
 use Rattle.search.specs.declared.Found.the-variants as F
-use Rattle.search.specs.Finds.{Asked, routeOn, lightOn, foundOf, outOf}
+use Rattle.search_plan.specs.Planned.{Asked, routeOn}
+use Rattle.search.specs.Finds.{lightOn, foundOf, outOf}
 use Rattle.answers.specs.declared.Granted.{Granted}
 use Rattle.answers.specs.declared.Granted.the-variants as G
 use Rattle.answers.specs.Answers.{grantedNumber, grantedValues, grantedBy, grantedOf}

@@ -1,42 +1,21 @@
--- What the search of a route call needs, and what it answers and leaves.
+-- What the search of a route call answers and leaves.
 -- Assumes nothing.
 use Prim.Native.Nat.{ℕ}
-use mathlib.Core.Path.{_≡_}
-use mathlib.Core.Bool.{true}
 use mathlib.Core.Option.{Option, none, some}
 use mathlib.Core.List.{List}
 use lib.ListN.{length}
 use Rattle.meaning.specs.Site.{siteOf}
-use Rattle.meaning.specs.Board.{free}
-use Rattle.meaning.specs.Reach.{Route, findRoute}
+use Rattle.meaning.specs.Reach.{Route}
 use Rattle.meaning.specs.Light.{Light, encode}
-use Rattle.meaning.specs.Calls.{over, bytesView, startNamed, grantedLight}
+use Rattle.meaning.specs.Calls.{over, bytesView, grantedLight}
 use Rattle.meaning.specs.Plan.{node}
-use Rattle.site.specs.Ready.{Ready}
-use Rattle.site.specs.declared.Sizes.{Sizes}
 use Rattle.site.specs.declared.Trip.{Trip}
-use Rattle.light_write.specs.Codes.{stepsIn}
-use Rattle.search.specs.declared.Traced.{Traced}
-use Rattle.search.specs.declared.Traced.the-variants.{Steps, Missing}
 use Rattle.search.specs.declared.Found.{Found}
 use Rattle.search.specs.declared.Found.the-variants as Found
 
--- an accepted file with its sizes, a board of its length, and a trip whose states and tick are the site's
-pub record Asked (file : List ℕ) (l : Sizes) (size : ℕ) (trip : Trip) : Type 0 where
-  pub ready : Ready file size l
-  pub named : startNamed (siteOf file) (node (trip .start) (trip .tick)) (trip .goal) ≡ true
-
--- the route of the trip on the board, and its light
-abbrev pub routeOn : List ℕ → List ℕ → Trip → Option Route
-routeOn file board trip = findRoute (siteOf file) (free (siteOf file) board) (node (trip .start) (trip .tick)) (trip .goal)
-
+-- the light of the trip on the board
 abbrev pub lightOn : List ℕ → List ℕ → ℕ → Trip → Light
 lightOn file board tug trip = grantedLight (siteOf file) (bytesView (siteOf file) board) tug (node (trip .start) (trip .tick)) (trip .goal)
-
--- the plan says the route, whose steps are in the path
-unfoldable pub Planned : Option Route → List ℕ → Traced → Type 0
-Planned o path (Steps count arrival) = o ≡ some (record { steps = stepsIn path count; arrival = arrival })
-Planned o path Missing = o ≡ none
 
 -- the answer: the light's length and its arrival
 unfoldable pub foundOf : Option Route → Light → Found

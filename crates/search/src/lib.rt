@@ -1,7 +1,7 @@
-// The search of a route call on an accepted site: the plan with the least arrival, and its light.
+// The search of a route call: the light of the plan with the least arrival.
 use light::Head;
 use light_write::CODE_LIMIT;
-use search_sizes::ALLOWED_WORDS;
+use search_plan::Traced;
 use site::Sizes;
 use site::Trip;
 ghost use mathlib.Core.Path.{_≡_};
@@ -9,62 +9,8 @@ ghost use Prim.Native.Nat.{_≤_};
 ghost use lib.ListN.{length};
 ghost use Rattle.meaning.specs.Site.{siteOf};
 ghost use Rattle.meaning.specs.Calls.{lightRoom};
-ghost use Rattle.search.specs.Finds.{Asked, routeOn, lightOn, Planned, foundOf, outOf};
-
-// A plan's number of steps and its arrival, or that there is none.
-enum Traced {
-    Steps(usize, usize),
-    Missing,
-}
-
-// The plan with the least arrival, its steps in `path`.
-fn search(
-    file: &[u8],
-    sizes: Sizes,
-    board: &[u8],
-    trip: Trip,
-    path: &mut [u16; CODE_LIMIT],
-) -> Traced
-    requires { ⌜ Asked (now file) sizes (length (now board)) trip ⌝ }
-    ensures { λ r. ⌜ Planned (routeOn (now (file .entry)) (now (board .entry)) trip) (now (path .exit)) r ⌝ }
-{
-    let states = search_site::decode_states(file, sizes.states);
-    let moves = search_site::decode_moves(file, sizes.start, sizes.motions);
-    let frees = search_free::free_rows(board, sizes.cells, sizes.horizon);
-    let mut allowed = [18446744073709551615u64; ALLOWED_WORDS];
-    search_reach::allow_all(&mut allowed, &frees, &moves, file, sizes.motions);
-    let start = trip.start as usize;
-    let tick = trip.tick as usize;
-    let goal = trip.goal as usize;
-    let reached = search_reach::explore(
-        &states,
-        &moves,
-        &frees,
-        &allowed,
-        sizes.states,
-        sizes.motions,
-        start,
-        tick,
-    );
-    let arrival = search_back::arrival(&reached, goal, tick, sizes.horizon);
-    if sizes.horizon < arrival {
-        return Traced::Missing;
-    }
-    let count = search_trace::trace_back(
-        &states,
-        &moves,
-        &frees,
-        &allowed,
-        &reached,
-        sizes.states,
-        sizes.motions,
-        tick,
-        goal,
-        arrival,
-        path,
-    );
-    Traced::Steps(count, arrival)
-}
+ghost use Rattle.search_plan.specs.Planned.{Asked, routeOn};
+ghost use Rattle.search.specs.Finds.{lightOn, foundOf, outOf};
 
 // The number of bytes of the light and the arrival, or that no plan exists.
 pub enum Found {
@@ -79,7 +25,7 @@ pub fn find(file: &[u8], sizes: Sizes, board: &[u8], tug: u8, trip: Trip, out: &
     ensures { λ _. ⌜ now (out .exit) ≡ outOf (routeOn (now (file .entry)) (now (board .entry)) trip) (lightOn (now (file .entry)) (now (board .entry)) tug trip) (now (out .entry)) ⌝ }
 {
     let mut path = [0u16; CODE_LIMIT];
-    match search(file, sizes, board, trip, &mut path) {
+    match search_plan::search(file, sizes, board, trip, &mut path) {
         Traced::Steps(count, arrival) => {
             let edition = board::read_edition(board);
             let head = Head {

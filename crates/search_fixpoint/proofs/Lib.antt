@@ -1,3 +1,1 @@
-pub mod StepsLaws
-pub mod ProgressLaws
-pub mod ListLaws
+mod TurnLaws

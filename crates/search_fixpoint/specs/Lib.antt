@@ -1,1 +1,1 @@
-pub mod Spread
+pub mod Turns

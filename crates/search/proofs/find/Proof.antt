@@ -7,9 +7,9 @@ use borrow.Author.Needs.{needs}
 use Rattle.meaning.specs.Site.{siteOf}
 use Rattle.meaning.specs.Calls.{lightRoom}
 use Rattle.light.specs.Sizes.{lightLength}
-use Rattle.search.specs.declared.Traced.the-variants.{Steps}
-use Rattle.search.specs.Finds.{routeOn, Planned}
-use Rattle.search.proofs.PartsLaws.{fits, found-route, out-light, found-nothing, out-same}
+use Rattle.search_plan.specs.declared.Traced.the-variants.{Steps}
+use Rattle.search_plan.specs.Planned.{routeOn, Planned}
+use Rattle.search.proofs.LightLaws.{fits, found-route, out-light, found-nothing, out-same}
 use Rattle.search.proofs.find.Statement.{statement}
 use Rattle.search.proofs.find.Tie as tie
 

@@ -2,7 +2,7 @@
 -- Assumes nothing.
 use native.Mathlib.Omega.{arith}
 use borrow.Author.Needs.{needs}
-use Rattle.search_fixpoint.proofs.ProgressLaws.{turn-even, turn-odd}
+use Rattle.search_fixpoint.proofs.TurnLaws.{turn-even, turn-odd}
 use Rattle.search_fixpoint.proofs.in_turn.Statement.{statement}
 use Rattle.search_fixpoint.proofs.in_turn.Tie as tie
 

@@ -4,8 +4,7 @@ use Prim.Native.Nat.{ℕ, _-_, _≤_, _<_}
 use mathlib.Core.Path.{_≡_}
 use mathlib.Core.Bool.{false≢true, true≢false}
 use lib.ListN.{getD}
-use Rattle.search_fixpoint.proofs.ListLaws.{none-more}
-use Rattle.search_fixpoint.proofs.ProgressLaws.{noted-some}
+use Rattle.search_fixpoint.proofs.TurnLaws.{none-more, noted-some}
 use borrow.Author.Needs.{needs}
 use native.Mathlib.Omega.{arith}
 use Rattle.search_fixpoint.proofs.none_grown.Statement.{statement}

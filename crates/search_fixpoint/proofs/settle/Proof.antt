@@ -5,10 +5,9 @@ use mathlib.Core.Path.{_≡_}
 use lib.ListN.{length, length-replicate}
 use Rattle.search_ticks.specs.Rows.{has}
 use Rattle.search_step.specs.Sets.{Closed, Going}
-use Rattle.search_fixpoint.specs.Spread.{Tried}
-use Rattle.search_fixpoint.proofs.StepsLaws.{going-start, going-then}
-use Rattle.search_fixpoint.proofs.ListLaws.{tried-start, tried-closed}
-use Rattle.search_fixpoint.proofs.ProgressLaws.{left, turn-less}
+use Rattle.search_spread.specs.Spread.{Tried}
+use Rattle.search_spread.proofs.StepsLaws.{going-start, going-then}
+use Rattle.search_fixpoint.proofs.TurnLaws.{tried-start, tried-closed, left, turn-less}
 use borrow.Author.Needs.{needs}
 use native.Mathlib.Omega.{arith}
 use Rattle.search_fixpoint.proofs.settle.Statement.{statement}

@@ -5,9 +5,11 @@ use mathlib.Core.Path.{_≡_}
 use lib.ListN.{length}
 use Rattle.search_ticks.specs.Rows.{has}
 use Rattle.search_step.specs.Sets.{Closed, Going}
-use Rattle.search_fixpoint.specs.Spread.{Listed, Tried, Progress}
-use Rattle.search_fixpoint.proofs.StepsLaws.{going-start, going-then}
-use Rattle.search_fixpoint.proofs.ProgressLaws.{progress-none, progress-then, progress-map, Quiet, quiet-more, quiet-all}
+use Rattle.search_lists.specs.Lists.{Listed}
+use Rattle.search_spread.specs.Spread.{Tried, Progress}
+use Rattle.search_spread.proofs.StepsLaws.{going-start, going-then}
+use Rattle.search_spread.proofs.ProgressLaws.{progress-none, progress-then, progress-map}
+use Rattle.search_fixpoint.proofs.TurnLaws.{Quiet, quiet-more, quiet-all}
 use borrow.Author.Needs.{needs}
 use native.Mathlib.Omega.{arith}
 use Rattle.search_fixpoint.proofs.spread_all.Statement.{statement}

@@ -1,13 +1,13 @@
--- `search_fixpoint::wait_in` meets its contract: there are no waits in a state that is none.
+-- `search_spread::wait_in` meets its contract: there are no waits in a state that is none.
 -- Assumes nothing.
 use mathlib.Core.Path.{refl}
 use Rattle.search_step.specs.Sets.{WaitClosed}
-use Rattle.search_fixpoint.proofs.StepsLaws.{going-start, going-one}
-use Rattle.search_fixpoint.proofs.ProgressLaws.{progress-none, progress-grown, progress-map}
+use Rattle.search_spread.proofs.StepsLaws.{going-start, going-one}
+use Rattle.search_spread.proofs.ProgressLaws.{progress-none, progress-grown, progress-map}
 use native.Mathlib.Omega.{arith}
 use borrow.Author.Needs.{needs}
-use Rattle.search_fixpoint.proofs.wait_in.Statement.{statement}
-use Rattle.search_fixpoint.proofs.wait_in.Tie as tie
+use Rattle.search_spread.proofs.wait_in.Statement.{statement}
+use Rattle.search_spread.proofs.wait_in.Tie as tie
 
 returns : tie.Need-returns
 returns c = (going-start _ _, (λ lt. absurd (omega arith), (λ x t ne h. refl, progress-none _ tt)))

@@ -1,16 +1,17 @@
--- `search_fixpoint::move_from` meets its contract: the motions of the list before m are closed, unless growth of s itself is noted.
+-- `search_spread::move_from` meets its contract: the motions of the list before m are closed, unless growth of s itself is noted.
 -- Assumes nothing.
 use Prim.Native.Nat.{_-_}
 use native.Mathlib.Omega.{arith}
 use mathlib.Core.Path.{_≡_, refl, _∙_}
 use lib.ListN.{length, length-set}
 use Rattle.search_step.specs.Sets.{MoveClosed, Below, Going}
-use Rattle.search_fixpoint.specs.Spread.{Noted, Progress, Unnoted}
-use Rattle.search_fixpoint.proofs.ListLaws.{Walked, noted-start, noted-more, walked-start, walked-more, walked-last, walked-end, listed-from}
-use Rattle.search_fixpoint.proofs.StepsLaws.{going-start, going-one}
-use Rattle.search_fixpoint.proofs.ProgressLaws.{progress-none, progress-then, progress-move}
-use Rattle.search_fixpoint.proofs.move_from.Statement.{statement}
-use Rattle.search_fixpoint.proofs.move_from.Tie as tie
+use Rattle.search_spread.specs.Spread.{Noted, Progress, Unnoted}
+use Rattle.search_spread.proofs.WalkLaws.{Walked, noted-start, noted-more, walked-start, walked-more, walked-last, walked-end}
+use Rattle.search_lists.proofs.ListLaws.{listed-from}
+use Rattle.search_spread.proofs.StepsLaws.{going-start, going-one}
+use Rattle.search_spread.proofs.ProgressLaws.{progress-none, progress-then, progress-move}
+use Rattle.search_spread.proofs.move_from.Statement.{statement}
+use Rattle.search_spread.proofs.move_from.Tie as tie
 
 abbrev Inv-loop : tie.InvT-loop
 Inv-loop moves allowed reached₀ lists grown₀ k s m₀ reached grown m =

@@ -1,11 +1,11 @@
--- `search_fixpoint::lists_of` meets its contract: the motions from m on are on their lists.
+-- `search_lists::lists_of` meets its contract: the motions from m on are on their lists.
 -- Assumes nothing.
 use Prim.Native.Nat.{_≤_, _-_}
 use borrow.Author.Needs.{needs}
 use native.Mathlib.Omega.{arith}
-use Rattle.search_fixpoint.proofs.ListLaws.{Listing, listing-none, listing-more, listing-all}
-use Rattle.search_fixpoint.proofs.lists_of.Statement.{statement}
-use Rattle.search_fixpoint.proofs.lists_of.Tie as tie
+use Rattle.search_lists.proofs.ListLaws.{Listing, listing-none, listing-more, listing-all}
+use Rattle.search_lists.proofs.lists_of.Statement.{statement}
+use Rattle.search_lists.proofs.lists_of.Tie as tie
 
 abbrev Inv-loop : tie.InvT-loop
 Inv-loop moves k lists₀ m₀ lists m = (m ≤ k) × Listing k moves lists m

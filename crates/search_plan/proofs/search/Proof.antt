@@ -1,4 +1,4 @@
--- `search::search` meets its contract: each part is handed what the ones before it leave.
+-- `search_plan::search` meets its contract: each part is handed what the ones before it leave.
 -- Assumes nothing.
 use Prim.Native.Nat.{_*_, _≤_}
 use mathlib.Core.Path.{sym, ap}
@@ -8,9 +8,9 @@ use lib.ListN.{length}
 use Rattle.site.specs.declared.Sizes.{Sizes}
 use Rattle.search_site.specs.Arrays.{States, Motions}
 use Rattle.search_reach.proofs.AllowLaws.{ones-full, ones-long}
-use Rattle.search.proofs.PartsLaws.{Ranges, SetsOn, ranges, same-states, board-fits, states-in, motions-in, sweeps-in, sets-in, missing, found, planned}
-use Rattle.search.proofs.search.Statement.{statement}
-use Rattle.search.proofs.search.Tie as tie
+use Rattle.search_plan.proofs.PartsLaws.{Ranges, SetsOn, ranges, same-states, board-fits, states-in, motions-in, sweeps-in, sets-in, missing, found, planned}
+use Rattle.search_plan.proofs.search.Statement.{statement}
+use Rattle.search_plan.proofs.search.Tie as tie
 
 -- ---- the places that the answers look back to, from where all sets but the reached pairs are there
 

@@ -1,14 +1,14 @@
--- `search_fixpoint::spread_one` meets its contract: by cases of its tests, and then waits before motions.
+-- `search_spread::spread_one` meets its contract: by cases of its tests, and then waits before motions.
 -- Assumes nothing.
 use mathlib.Core.Path.{refl}
 use lib.ListN.{length-set}
-use Rattle.search_fixpoint.proofs.StepsLaws.{going-start, going-both}
-use Rattle.search_fixpoint.proofs.ProgressLaws.{progress-none, progress-then, cleared, cleared-then}
-use Rattle.search_fixpoint.proofs.ListLaws.{tried-empty, tried-state}
+use Rattle.search_spread.proofs.StepsLaws.{going-start, going-both}
+use Rattle.search_spread.proofs.ProgressLaws.{progress-none, progress-then, cleared, cleared-then}
+use Rattle.search_spread.proofs.WalkLaws.{tried-empty, tried-state}
 use native.Mathlib.Omega.{arith}
 use borrow.Author.Needs.{needs}
-use Rattle.search_fixpoint.proofs.spread_one.Statement.{statement}
-use Rattle.search_fixpoint.proofs.spread_one.Tie as tie
+use Rattle.search_spread.proofs.spread_one.Statement.{statement}
+use Rattle.search_spread.proofs.spread_one.Tie as tie
 
 mul-if1 : tie.Need-mul-if1
 mul-if1 c = search needs

@@ -1,38 +1,35 @@
--- Steps that set bits, or change nothing: one after the other, and why they come to an end.
+-- The states in turn, and why the turns come to an end.
 -- Assumes nothing.
 use Prim.Native.Nat.{ℕ, zero, suc, _+_, _-_, _*_, _%_, _^_, _≤_, _<_, min}
 use native.Mathlib.Omega.{arith}
-use mathlib.Core.Path.{_≡_, refl, sym, ap, _∙_}
+use mathlib.Core.Path.{_≡_, refl, ap, _∙_}
 use mathlib.Core.List.{List, [], _∷_}
-use lib.Bits.{bitOr, or-add-and, and-le-r}
 use lib.Dec.{eqb}
-use lib.ListN.{length, getD, set}
-use lib.Seq.{getD-set-same, getD-set-other}
+use lib.ListN.{length, getD, replicate, getD-replicate}
 use borrow.Author.Tests.{eqb-true, eqb-false, eq-eqb, ne-eqb}
 use Rattle.meaning.proofs.BasicsLaws.{decide}
-use Rattle.search_ticks.specs.Rows.{Words, total, Grown}
+use Rattle.search_ticks.specs.Rows.{Words, total, has}
 use Rattle.search_ticks.proofs.RowLaws.{total-bound}
-use Rattle.search_fixpoint.specs.Spread.{Progress, more, quiet, Unnoted, UnnotedBut, NoneGrown, inTurn}
+use Rattle.search_site.specs.Arrays.{fromAt, Motions}
+use Rattle.search_step.specs.Sets.{Closed}
+use Rattle.search_spread.specs.Spread.{Tried, Progress, more, quiet, UnnotedBut}
+use Rattle.search_fixpoint.specs.Turns.{NoneGrown, inTurn}
 
-pub progress-grown : (l₀ l : List ℕ) (d : ℕ) → Grown l₀ l d → Progress l₀ l (d ≡ 0)
-progress-grown l₀ l d g =
-    decide (eqb d 0)
-    (λ u. let none : d ≡ 0 = eqb-true d 0 u in quiet (g .same none) none)
-    (λ u. let some : d ≡ 0 → ⊥ = eqb-false d 0 u in more (g .more (omega arith)))
+module _ (n k : ℕ) (st mv fr al : List ℕ) where
+  -- at the start growth is noted everywhere
+  pub tried-start : (l : List ℕ) → Tried n k st mv fr al (replicate 256 1) (has l)
+  tried-start l s h e = absurd (omega (arith, getD-replicate {A = ℕ} 256 s 1 0 h))
 
-pub progress-none : (l : List ℕ) {Q : Type 0} → Q → Progress l l Q
-progress-none l q = quiet refl q
+  -- no growth is noted
+  pub tried-closed : (g l : List ℕ) → n ≤ 256 → Motions k mv → ((s : ℕ) → s < 256 → getD g s 0 ≡ 0) → Tried n k st mv fr al g (has l) → Closed n k st mv fr al (has l)
+  tried-closed g l few ranges none c =
+      (λ s h. c s (omega arith) (none s (omega arith)) .0 h, λ m h. c (fromAt mv m) (ranges .from m h) (none (fromAt mv m) (ranges .from m h)) .1 m h refl)
 
-pub progress-map : {P Q : Type 0} {l₀ l : List ℕ} → (P → Q) → Progress l₀ l P → Progress l₀ l Q
-progress-map f (more h) = more h
-progress-map f (quiet e p) = quiet e (f p)
-
--- one after the other
-pub progress-then : {P Q R : Type 0} {l₀ l l′ : List ℕ} → (P → Q → R) → Progress l₀ l P → Progress l l′ Q → Progress l₀ l′ R
-progress-then f (more h) (more h′) = more (omega arith)
-progress-then f (more h) (quiet e q) = more (omega (arith, ap total e))
-progress-then f (quiet e p) (more h′) = more (omega (arith, ap total e))
-progress-then f (quiet e p) (quiet e′ q) = quiet (e′ ∙ e) (f p q)
+pub none-more : (g : List ℕ) (s : ℕ) → ((x : ℕ) → x < s → getD g x 0 ≡ 0) → getD g s 0 ≡ 0 → (x : ℕ) → x < s + 1 → getD g x 0 ≡ 0
+none-more g s h e x lt =
+    decide (eqb x s)
+    (λ u. ap (λ (y : ℕ). getD g y 0) (eqb-true x s u) ∙ e)
+    (λ u. let ne : x ≡ s → ⊥ = eqb-false x s u in h x (omega arith))
 
 -- ---- the states in turn
 
@@ -76,30 +73,6 @@ quiet-all g turn s past before x small =
 
     high : inTurn x turn ≡ 255 - x → inTurn x turn < s
     high e = omega arith
-
--- ---- the notes of growth
-
--- a motion that sets nothing notes nothing
-pub progress-move : (l l′ g : List ℕ) (d to : ℕ) → to < length g → Grown l l′ d → Progress l l′ (Unnoted g (set g to (bitOr (getD g to 0) d)))
-progress-move l l′ g d to room grown =
-    progress-map
-    (λ none x.
-    decide (eqb x to)
-    (λ u.
-    let same : x ≡ to = eqb-true x to u in
-    let kept : bitOr (getD g to 0) d ≡ getD g to 0 = omega (arith, or-add-and (getD g to 0) d, and-le-r (getD g to 0) d) in
-    ap (λ (y : ℕ). getD (set g to (bitOr (getD g to 0) d)) y 0) same ∙ getD-set-same g to _ 0 room ∙ kept ∙ ap (λ (y : ℕ). getD g y 0) (sym same))
-    (λ u. getD-set-other g to x _ 0 (eqb-false x to u)))
-    (progress-grown l l′ d grown)
-
--- the note of s is taken back
-pub cleared : (g : List ℕ) (s : ℕ) → s < length g → UnnotedBut g (set g s 0) s
-cleared g s room = record { here = getD-set-same g s 0 0 room; others = λ x ne. getD-set-other g s x 0 0 ne }
-
-pub cleared-then : (g g₂ : List ℕ) (s : ℕ) → s < length g → Unnoted (set g s 0) g₂ → UnnotedBut g g₂ s
-cleared-then g g₂ s room none =
-    let c = cleared g s room in
-    record { here = none s ∙ c .here; others = λ x ne. none x ∙ c .others x ne }
 
 -- ---- the end
 

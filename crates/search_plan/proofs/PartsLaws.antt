@@ -1,22 +1,17 @@
--- What the parts of the search give together: the sets, the plan, and its light.
+-- What the parts of the search give together: the sets and the plan.
 -- Assumes nothing.
 use Prim.Native.Nat.{ℕ, _+_, _*_, _-_, _≤_, _<_}
 use native.Mathlib.Omega.{arith}
 use mathlib.Core.Path.{_≡_, sym, ap, _∙_}
 use mathlib.Core.Bool.{cond}
-use mathlib.Core.Option.{Option, none, some}
+use mathlib.Core.Option.{none, some}
 use mathlib.Core.List.{List}
 use lib.Dec.{leb}
 use lib.ListN.{length}
 use Rattle.meaning.specs.Site.{Site, siteOf}
 use Rattle.meaning.specs.WellFormed.{WellFormed}
-use Rattle.meaning.specs.Board.{Free, free, edition}
-use Rattle.meaning.specs.Reach.{Route}
-use Rattle.meaning.specs.Light.{Light, encode}
-use Rattle.meaning.specs.Calls.{lightRoom, over, bytesView, grantedLight}
+use Rattle.meaning.specs.Board.{Free, free}
 use Rattle.meaning.proofs.CallLaws.{named-start, named-tick, named-goal}
-use Rattle.meaning.proofs.LightLaws.{length-encode}
-use Rattle.meaning.proofs.TraceLaws.{found-steps}
 use Rattle.meaning.specs.Plan.{node}
 use Rattle.site.specs.declared.Sizes.{Sizes}
 use Rattle.site.specs.declared.Trip.{Trip}
@@ -26,16 +21,13 @@ use Rattle.search_step.specs.Sets.{Closed, Explored}
 use Rattle.search_reach.specs.Reached.{Starts, ReachedRows}
 use Rattle.search_back.specs.Words.{arrivalIn, Sets}
 use Rattle.search_back.proofs.SetsLaws.{sets-right}
-use Rattle.light.specs.Sizes.{lightLength}
 use Rattle.light_write.specs.Codes.{stepsIn}
-use Rattle.light_write.proofs.CodeLaws.{length-steps}
 use Rattle.search_trace.specs.Turns.{Search, Found}
 use Rattle.search_trace.proofs.FoundLaws.{routeAfter, route-there, route-nowhere, arrival-found}
 use Rattle.search_site.specs.Decoded.{Sweeps, StatesDecoded, MotionsDecoded}
 use Rattle.search_site.proofs.DecodedLaws.{well, states-fit, motions-fit, sweeps-fit, decoded}
-use Rattle.search.specs.declared.Traced.the-variants.{Steps, Missing}
-use Rattle.search.specs.declared.Found.the-variants as Answer
-use Rattle.search.specs.Finds.{Asked, routeOn, lightOn, Planned, foundOf, outOf}
+use Rattle.search_plan.specs.declared.Traced.the-variants.{Steps, Missing}
+use Rattle.search_plan.specs.Planned.{Asked, routeOn, Planned}
 
 -- the numbers that keep each index of the search in range
 pub record Ranges (l : Sizes) (trip : Trip) : Type 0 where
@@ -151,61 +143,3 @@ module _ (file board : List ℕ) (l : Sizes) (trip : Trip) (q : Asked file l (le
           let same : stepsIn path count ≡ answered .route .steps = traced answered found in
           route-there site f start tick goal arrival (l .horizon) same-horizon arrives there
           ∙ ap some (λ i. record { steps = sym same i; arrival = there-on i })
-
-  -- ---- the light of a plan
-
-  module _ (path : List ℕ) (count arrival : ℕ) (plan : Planned (routeOn file board trip) path (Steps count arrival)) where
-    abbrev route : Route
-    route = record { steps = stepsIn path count; arrival = arrival }
-
-    route-is : routeOn file board trip ≡ some route
-    unfolding Planned
-    route-is = plan
-
-    pub fits : (count ≤ 1000) × (arrival ≤ 1000) × (lightLength count ≤ lightRoom site)
-    fits =
-        let (laid, named, late, in-time) = found-steps site site-well f (node start tick) goal route route-is in
-        let many = length-steps path count in
-        let few = site-well .horizon-range in
-        (omega arith, omega arith, omega arith)
-
-    -- the light with the plan's steps, made from the edition e
-    abbrev written : ℕ → ℕ → Light
-    written e tug =
-        record { edition = e; tug = tug; start = start; tick = tick; goal = goal; arrival = arrival; steps = stepsIn path count }
-
-    light-is : (tug : ℕ) → lightOn file board tug trip ≡ written (edition board) tug
-    unfolding grantedLight bytesView
-    light-is tug = simp route-is
-
-    pub found-route : (size : ℕ) → size ≡ lightLength count → (tug : ℕ)
-        → Answer.Route size arrival ≡ foundOf (routeOn file board trip) (lightOn file board tug trip)
-    unfolding foundOf
-    found-route size told tug =
-        let many : length (encode (written (edition board) tug)) ≡ size =
-        length-encode (written (edition board) tug) ∙ ap lightLength (length-steps path count) ∙ sym told in
-        sym (ap (λ (o : Option Route). foundOf o (lightOn file board tug trip)) route-is
-        ∙ ap (foundOf (some route)) (light-is tug)
-        ∙ ap (λ (n : ℕ). Answer.Route n arrival) many)
-
-    pub out-light : (tug e : ℕ) (out now : List ℕ) → e ≡ edition board → now ≡ over (encode (written e tug)) out
-        → now ≡ outOf (routeOn file board trip) (lightOn file board tug trip) out
-    unfolding outOf
-    out-light tug e out now same wrote =
-        wrote
-        ∙ ap (λ (n : ℕ). over (encode (written n tug)) out) same
-        ∙ sym (ap (λ (o : Option Route). outOf o (lightOn file board tug trip) out) route-is
-        ∙ ap (λ (x : Light). outOf (some route) x out) (light-is tug))
-
-  module _ (path : List ℕ) (plan : Planned (routeOn file board trip) path Missing) where
-    no-route : routeOn file board trip ≡ none
-    unfolding Planned
-    no-route = plan
-
-    pub found-nothing : (tug : ℕ) → Answer.Nothing ≡ foundOf (routeOn file board trip) (lightOn file board tug trip)
-    unfolding foundOf
-    found-nothing tug = sym (ap (λ (o : Option Route). foundOf o (lightOn file board tug trip)) no-route)
-
-    pub out-same : (tug : ℕ) (out : List ℕ) → out ≡ outOf (routeOn file board trip) (lightOn file board tug trip) out
-    unfolding outOf
-    out-same tug out = sym (ap (λ (o : Option Route). outOf o (lightOn file board tug trip) out) no-route)

@@ -1,24 +1,13 @@
--- Lists of the motions by state, and what is closed where no growth of a row is noted.
+-- What is closed where no growth of a row is noted.
 -- Assumes nothing.
-use Prim.Native.Nat.{ℕ, _+_, _-_, _%_, _<_}
+use Prim.Native.Nat.{ℕ, _<_}
 use mathlib.Core.Path.{_≡_}
-use mathlib.Core.Bool.{cond}
 use mathlib.Core.List.{List}
-use lib.Dec.{eqb}
 use lib.ListN.{getD}
-use Rattle.search_sizes.specs.Sizes.{rowTicks, stateRows, motionRows}
+use Rattle.search_sizes.specs.Sizes.{rowTicks, stateRows}
 use Rattle.search_ticks.specs.Rows.{has, total}
 use Rattle.search_site.specs.Arrays.{fromAt}
 use Rattle.search_step.specs.Sets.{Pairs, WaitClosed, MoveClosed}
-
--- the list that starts at a has the motion m: behind each motion of it stands the next, which is a later one
-pub data Chain : List ℕ → ℕ → ℕ → ℕ → Type 0 where
-  here : {ls : List ℕ} {k m : ℕ} → m < k → Chain ls k m m
-  next : {ls : List ℕ} {k a m : ℕ} → a < k → a < getD ls a 0 → Chain ls k (getD ls a 0) m → Chain ls k a m
-
--- each of k motions is on the list of its state
-abbrev pub Listed : ℕ → List ℕ → List ℕ → Type 0
-Listed k mv ls = (m : ℕ) → m < k → Chain ls k (getD ls (motionRows + fromAt mv m) 0) m
 
 -- the motions from s are closed
 abbrev pub MovesClosed : ℕ → List ℕ → List ℕ → ℕ → Pairs → Type 0
@@ -45,11 +34,3 @@ Unnoted g₀ g = (x : ℕ) → getD g x 0 ≡ getD g₀ x 0
 pub record UnnotedBut (g₀ g : List ℕ) (s : ℕ) : Type 0 where
   pub here : getD g s 0 ≡ 0
   pub others : (x : ℕ) → (x ≡ s → ⊥) → getD g x 0 ≡ getD g₀ x 0
-
--- no growth is noted
-abbrev pub NoneGrown : List ℕ → Type 0
-NoneGrown g = (s : ℕ) → s < stateRows → getD g s 0 ≡ 0
-
--- state s of 256, counted from the other end where the turn is odd
-abbrev pub inTurn : ℕ → ℕ → ℕ
-inTurn s turn = cond (eqb (turn % 2) 0) s (255 - s)

@@ -1,0 +1,16 @@
+-- Lists of the motions by state.
+-- Assumes nothing.
+use Prim.Native.Nat.{ℕ, _+_, _<_}
+use mathlib.Core.List.{List}
+use lib.ListN.{getD}
+use Rattle.search_sizes.specs.Sizes.{motionRows}
+use Rattle.search_site.specs.Arrays.{fromAt}
+
+-- the list that starts at a has the motion m: behind each motion of it stands the next, which is a later one
+pub data Chain : List ℕ → ℕ → ℕ → ℕ → Type 0 where
+  here : {ls : List ℕ} {k m : ℕ} → m < k → Chain ls k m m
+  next : {ls : List ℕ} {k a m : ℕ} → a < k → a < getD ls a 0 → Chain ls k (getD ls a 0) m → Chain ls k a m
+
+-- each of k motions is on the list of its state
+abbrev pub Listed : ℕ → List ℕ → List ℕ → Type 0
+Listed k mv ls = (m : ℕ) → m < k → Chain ls k (getD ls (motionRows + fromAt mv m) 0) m

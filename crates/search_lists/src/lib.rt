@@ -1,0 +1,35 @@
+// Lists of the motions by the state that they start from.
+use search_sizes::LISTED;
+use search_sizes::MOTIONS;
+ghost use mathlib.Core.Path.{_≡_};
+ghost use Prim.Native.Nat.{_<_};
+ghost use lib.ListN.{getD};
+ghost use Rattle.search_sizes.specs.Sizes.{listed};
+ghost use Rattle.search_site.specs.Arrays.{Motions};
+ghost use Rattle.search_lists.specs.Lists.{Listed};
+
+const NO_MOTION: u16 = MOTIONS as u16;
+
+// Lists of the motions from each state, in rising order: at m stands the motion after m, behind all motions, at s, the first one of s; the number that is no motion's ends a list.
+pub fn lists_of(moves: &[u16], k: usize) -> [u16; LISTED]
+    requires { ⌜ Motions k (now moves) ⌝ }
+    ensures { λ r. ⌜ Listed k (now (moves .entry)) r ⌝ }
+{
+    let mut lists = [NO_MOTION; LISTED];
+    let mut m = k;
+    while 0 < m {
+        m -= 1;
+        let first = MOTIONS + search_site::from_of(moves, k, m);
+        lists[m] = lists[first];
+        lists[first] = m as u16;
+    }
+    lists
+}
+
+// The number at place i of the lists.
+pub fn listed_at(lists: &[u16; LISTED], i: usize) -> usize
+    requires { ⌜ i < listed ⌝ }
+    ensures { λ r. ⌜ r ≡ getD (now (lists .entry)) i 0 ⌝ }
+{
+    search_site::number(lists[i])
+}

@@ -1,0 +1,32 @@
+-- What the search for a plan needs, and what it answers.
+-- Assumes nothing.
+use Prim.Native.Nat.{ℕ}
+use mathlib.Core.Path.{_≡_}
+use mathlib.Core.Bool.{true}
+use mathlib.Core.Option.{Option, none, some}
+use mathlib.Core.List.{List}
+use Rattle.meaning.specs.Site.{siteOf}
+use Rattle.meaning.specs.Board.{free}
+use Rattle.meaning.specs.Reach.{Route, findRoute}
+use Rattle.meaning.specs.Calls.{startNamed}
+use Rattle.meaning.specs.Plan.{node}
+use Rattle.site.specs.Ready.{Ready}
+use Rattle.site.specs.declared.Sizes.{Sizes}
+use Rattle.site.specs.declared.Trip.{Trip}
+use Rattle.light_write.specs.Codes.{stepsIn}
+use Rattle.search_plan.specs.declared.Traced.{Traced}
+use Rattle.search_plan.specs.declared.Traced.the-variants.{Steps, Missing}
+
+-- an accepted file with its sizes, a board of its length, and a trip whose states and tick are the site's
+pub record Asked (file : List ℕ) (l : Sizes) (size : ℕ) (trip : Trip) : Type 0 where
+  pub ready : Ready file size l
+  pub named : startNamed (siteOf file) (node (trip .start) (trip .tick)) (trip .goal) ≡ true
+
+-- the route of the trip on the board
+abbrev pub routeOn : List ℕ → List ℕ → Trip → Option Route
+routeOn file board trip = findRoute (siteOf file) (free (siteOf file) board) (node (trip .start) (trip .tick)) (trip .goal)
+
+-- the plan says the route, whose steps are in the path
+unfoldable pub Planned : Option Route → List ℕ → Traced → Type 0
+Planned o path (Steps count arrival) = o ≡ some (record { steps = stepsIn path count; arrival = arrival })
+Planned o path Missing = o ≡ none

@@ -1,0 +1,3 @@
+pub mod StepsLaws
+pub mod ProgressLaws
+mod WalkLaws
