@@ -7,6 +7,9 @@ use mathlib.Core.Bool.{Bool, true, false, true≢false}
 use native.Mathlib.Omega.{arith}
 use lib.ListN.{length, getD, drop, length-drop}
 use lib.Seq.{drop-drop, getD-drop, getD-take, length-take-le}
+use mathlib.Core.Logic.{inl, inr}
+use denote.Enum.Declared.{tagOf}
+use types.Run.{OneOf}
 use lib.Dec.{leb}
 use borrow.Author.Tests.{leb-true, leb-false}
 use Rattle.meaning.specs.Basics.{u16At, all}
@@ -18,6 +21,7 @@ use Rattle.fields.specs.declared.Header.{Header}
 use Rattle.fields.specs.declared.Item.{Item}
 use Rattle.fields.specs.declared.Item.the-variants.{Cut, End}
 use Rattle.fields.specs.declared.Item.the-variants as Item
+use Rattle.fields.proofs.Item.{the-type}
 
 -- ---- by place
 u16-drop : (file : List ℕ) (at i : ℕ) → u16At (drop at file) i ≡ u16At file (at + i)
@@ -180,6 +184,14 @@ module _ (s : List ℕ) (at : ℕ) where
       by-place (λ p q. let z : _≡_ {A = ℕ} 0 1 = cc in absurd (omega arith))
       (λ p q. p)
       (λ r. let i = item-field s at _ refl r in let z : _≡_ {A = ℕ} 0 1 = cc in absurd (omega arith))
+
+  -- where the answer is no field, none is listed from there on
+  pub no-field : (k : Item) → OneOf (1 ∷ 2 ∷ []) (tagOf the-type k) → k ≡ itemOf s at → listed (fieldsAt s at) ≡ []
+  unfolding listed
+  no-field (Item.Field h) (inl met) e = absurd (omega arith)
+  no-field (Item.Field h) (inr met) e = absurd (omega arith)
+  no-field Cut met e = ap listed (is-cut e)
+  no-field End met e = ap listed (at-end s at (is-end e))
 
   pub is-field : (h : Header) → Item.Field h ≡ itemOf s at → Whole s at h
   is-field h e =

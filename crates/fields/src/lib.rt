@@ -145,8 +145,7 @@ pub fn header_at(s: &[u8], at: usize) -> Header
 {
     match read_item(s, at) {
         Item::Field(h) => h,
-        Item::Cut => no_field(at),
-        Item::End => no_field(at),
+        _ => no_field(at),
     }
 }
 

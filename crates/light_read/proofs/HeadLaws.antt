@@ -10,7 +10,7 @@ use lib.ListN.{length, getD, drop}
 use borrow.Author.Tests.{lt-leb, le-leb}
 use Rattle.meaning.specs.Limits.{lightLimit, lightTag, lightHeadSize}
 use Rattle.meaning.specs.Basics.{every, u16At}
-use Rattle.meaning.specs.Fields.{Field, Fields, end, cut, next, noField, fields, complete, listed}
+use Rattle.meaning.specs.Fields.{Field, Fields, next, noField, fields, complete, listed}
 use Rattle.meaning.specs.Light.{isLight, isLightHead, lightHeadOf, lightOf, inLayout, stepOf}
 use Rattle.meaning.proofs.BasicsLaws.{every-at}
 use Rattle.meaning.proofs.LightLaws.{head-tests}
@@ -35,13 +35,10 @@ light-lit : (s : List ℕ) → isLight s ≡ lit (leb (length s) lightLimit) (fi
 unfolding isLight lit
 light-lit s = rw (whole-at s)
 
-pub light-cut : (s : List ℕ) → fieldsAt s 0 ≡ cut → isLight s ≡ false
-unfolding lit every complete
-light-cut s e = light-lit s ∙ rw e (and-false (leb (length s) lightLimit))
-
-pub light-end : (s : List ℕ) → fieldsAt s 0 ≡ end → isLight s ≡ false
-unfolding lit every complete listed isLightHead
-light-end s e = light-lit s ∙ rw e (and-false (leb (length s) lightLimit))
+pub light-none : (s : List ℕ) → listed (fieldsAt s 0) ≡ [] → isLight s ≡ false
+unfolding lit every isLightHead
+light-none s none =
+    light-lit s ∙ rw none (ap (λ (b : Bool). leb (length s) lightLimit && b) (and-false (complete (fieldsAt s 0))) ∙ and-false (leb (length s) lightLimit))
 
 -- complete, head, layout, and the same in the order that the code has
 reorder : (a b c d : Bool) → a && ((b && c) && (d && true)) ≡ b && c && (a && d)
@@ -104,10 +101,11 @@ accepted-field s h r =
     }
 
 pub accepted : (s : List ℕ) → isLight s ≡ true → Accepted s
+unfolding listed
 accepted s h =
     by-place s 0
-    (λ p q. absurd (true≢false (sym h ∙ light-end s (at-end s 0 p))))
-    (λ e q. absurd (true≢false (sym h ∙ light-cut s e)))
+    (λ p q. absurd (true≢false (sym h ∙ light-none s (ap listed (at-end s 0 p)))))
+    (λ e q. absurd (true≢false (sym h ∙ light-none s (ap listed e))))
     (accepted-field s h)
 
 -- ---- the head's numbers, by place

@@ -99,8 +99,7 @@ pub fn is_light(s: &[u8]) -> bool
     }
     match fields::read_item(s, 0) {
         Item::Field(h) => head_then_steps(s, h),
-        Item::Cut => false,
-        Item::End => false,
+        _ => false,
     }
 }
 

@@ -3,11 +3,11 @@
 use Prim.Native.Nat.{ℕ, _≤_, _<_}
 use native.Mathlib.Omega.{arith}
 use mathlib.Core.Path.{_≡_, refl}
-use mathlib.Core.Bool.{true, false, false≢true}
+use mathlib.Core.Bool.{Bool, true, false, false≢true}
 use lib.Dec.{leb, eqb}
-use borrow.Author.Tests.{leb-true, leb-false, eqb-true, eqb-false, le-leb, lt-leb, ne-eqb}
+use borrow.Author.Tests.{leb-true, leb-false, eqb-false, le-leb, lt-leb, ne-eqb}
 use Rattle.meaning.specs.Limits.{lastTug, lastClosure}
-use Rattle.meaning.specs.Board.{tug, closure, unknown, sortOf, isTug, isClosure, isHolder}
+use Rattle.meaning.specs.Board.{Sort, nobody, tug, closure, unknown, sortOf, tugSort, closureSort, holderSort, isTug, isClosure, isHolder}
 use Rattle.meaning.specs.Laws.{HoldersRight}
 use Rattle.meaning.proofs.BasicsLaws.{decide}
 
@@ -25,48 +25,40 @@ pub sort-unknown : (h : ℕ) → lastClosure < h → sortOf h ≡ unknown
 unfolding sortOf
 sort-unknown h lo = simp (ne-eqb h 0 (omega arith), lt-leb h lastTug (omega arith), lt-leb h lastClosure lo)
 
--- a number is in one of the four ranges
-ranges : {X : Type 0} (h : ℕ) → (h ≡ 0 → X) → (1 ≤ h → h ≤ lastTug → X) → (lastTug < h → h ≤ lastClosure → X) → (lastClosure < h → X) → X
-ranges h at-0 at-tug at-closure above =
+-- a number whose sort passes a test is in the range of a sort that passes it
+by-sort : {X : Type 0} (test : Sort → Bool) (h : ℕ) → test (sortOf h) ≡ true → (test nobody ≡ true → X) → (test tug ≡ true → 1 ≤ h → h ≤ lastTug → X)
+    → (test closure ≡ true → lastTug < h → h ≤ lastClosure → X) → (test unknown ≡ true → X) → X
+unfolding sortOf
+by-sort test h e at-0 at-tug at-closure above =
     decide (eqb h 0)
-    (λ e. at-0 (eqb-true h 0 e))
-    (λ e.
-    let pos : h ≡ 0 → ⊥ = eqb-false h 0 e in
+    (λ z. at-0 (rw z at e))
+    (λ z.
+    let pos : h ≡ 0 → ⊥ = eqb-false h 0 z in
+    let lo : 1 ≤ h = omega arith in
     decide (leb h lastTug)
-    (λ q. at-tug (omega arith) (leb-true h lastTug q))
+    (λ q. let hi = leb-true h lastTug q in at-tug (rw (sort-tug h lo hi) at e) lo hi)
     (λ q.
+    let over = leb-false h lastTug q in
     decide (leb h lastClosure)
-    (λ r. at-closure (leb-false h lastTug q) (leb-true h lastClosure r))
-    (λ r. above (leb-false h lastClosure r))))
+    (λ r. let hi = leb-true h lastClosure r in at-closure (rw (sort-closure h over hi) at e) over hi)
+    (λ r. above (rw (sort-unknown h (leb-false h lastClosure r)) at e))))
+
+no : {X : Type 0} → false ≡ true → X
+no e = absurd (false≢true e)
 
 -- ---- tugs, closures, holders
 
 tugs : (h : ℕ) → isTug h ≡ true → (1 ≤ h) × (h ≤ lastTug)
-unfolding isTug sortOf
-tugs h e =
-    ranges h
-    (λ z. absurd (false≢true (rw z at e)))
-    (λ lo hi. (lo, hi))
-    (λ lo hi. absurd (false≢true (rw (sort-closure h lo hi) at e)))
-    (λ lo. absurd (false≢true (rw (sort-unknown h lo) at e)))
+unfolding isTug
+tugs h e = by-sort tugSort h e no (λ _ lo hi. (lo, hi)) (λ x _ _. no x) no
 
 closures : (h : ℕ) → isClosure h ≡ true → (lastTug < h) × (h ≤ lastClosure)
-unfolding isClosure sortOf
-closures h e =
-    ranges h
-    (λ z. absurd (false≢true (rw z at e)))
-    (λ lo hi. absurd (false≢true (rw (sort-tug h lo hi) at e)))
-    (λ lo hi. (lo, hi))
-    (λ lo. absurd (false≢true (rw (sort-unknown h lo) at e)))
+unfolding isClosure
+closures h e = by-sort closureSort h e no (λ x _ _. no x) (λ _ lo hi. (lo, hi)) no
 
 holders : (h : ℕ) → isHolder h ≡ true → (1 ≤ h) × (h ≤ lastClosure)
-unfolding isHolder sortOf
-holders h e =
-    ranges h
-    (λ z. absurd (false≢true (rw z at e)))
-    (λ lo hi. (lo, omega arith))
-    (λ lo hi. (omega arith, hi))
-    (λ lo. absurd (false≢true (rw (sort-unknown h lo) at e)))
+unfolding isHolder
+holders h e = by-sort holderSort h e no (λ _ lo hi. (lo, omega arith)) (λ _ lo hi. (omega arith, hi)) no
 
 all-tugs : (h : ℕ) → 1 ≤ h → h ≤ lastTug → isTug h ≡ true
 unfolding isTug

@@ -10,7 +10,7 @@ use lib.Dec.{leb, eqb}
 use borrow.Author.Tests.{eqb-true, eqb-false, leb-true, leb-false, eq-eqb, ne-eqb}
 use Rattle.meaning.specs.Limits.{stateLimit}
 use Rattle.meaning.specs.Basics.{u16At}
-use Rattle.meaning.specs.Fields.{Field, noField, Fields, cut, fields, complete, listed}
+use Rattle.meaning.specs.Fields.{Field, noField, Fields, fields, complete, listed}
 use Rattle.meaning.specs.Site.{noState, headOf, laterOf, stateCount, headGood, isState, isMotion, motionsLaid, layoutGood, stateOf, motionOf, siteOf}
 use Rattle.meaning.proofs.BasicsLaws.{and-left}
 use Rattle.meaning.proofs.SiteFieldsLaws.{head-good, state-parts}
@@ -26,13 +26,9 @@ pub first-of : (p : Field → Bool) (f : Field) (fs gs : List Field) → fs ≡ 
 unfolding firstIs
 first-of p f fs gs h = rw h
 
-pub first-end : (p : Field → Bool) (file : List ℕ) (at : ℕ) → length file ≤ at → firstIs p (listed (fieldsAt file at)) ≡ false
+pub first-none : (p : Field → Bool) (file : List ℕ) (at : ℕ) → listed (fieldsAt file at) ≡ [] → firstIs p (listed (fieldsAt file at)) ≡ false
 unfolding firstIs
-first-end p file at h = rw (listed-end file at h)
-
-pub first-cut : (p : Field → Bool) (file : List ℕ) (at : ℕ) → fieldsAt file at ≡ cut → firstIs p (listed (fieldsAt file at)) ≡ false
-unfolding firstIs listed
-first-cut p file at h = rw h
+first-none p file at none = rw none
 
 -- ---- the head
 
@@ -40,13 +36,9 @@ headed : (file : List ℕ) (fs : List Field) → listed (fieldsAt file 0) ≡ fs
 unfolding headOf
 headed file fs e = ap (λ (x : Fields). getD (listed x) 0 noField) (sym (whole-at file)) ∙ ap (λ (x : List Field). getD x 0 noField) e
 
-pub head-end : (file : List ℕ) → length file ≤ 0 → headGood (headOf file) ≡ false
+pub head-none : (file : List ℕ) → listed (fieldsAt file 0) ≡ [] → headGood (headOf file) ≡ false
 unfolding headGood
-head-end file p = rw (headed file _ (listed-end file 0 p))
-
-pub head-cut : (file : List ℕ) → fieldsAt file 0 ≡ cut → headGood (headOf file) ≡ false
-unfolding headGood listed
-head-cut file p = rw (headed file _ (ap listed p))
+head-none file none = rw (headed file _ none)
 
 module _ (file : List ℕ) (h : Header) (w : Whole file 0 h) where
   head-is : headOf file ≡ fieldAt file 0
@@ -85,11 +77,11 @@ pub record HeadHere (file : List ℕ) : Type 0 where
   pub count : stateCount file ≡ u16At file 6
 
 pub head-here : (file : List ℕ) → complete (fields file) ≡ true → headGood (headOf file) ≡ true → HeadHere file
-unfolding laterOf stateCount siteOf
+unfolding listed laterOf stateCount siteOf
 head-here file w g =
     by-place file 0
-    (λ p i. absurd (true≢false (sym g ∙ head-end file p)))
-    (λ p i. absurd (true≢false (sym g ∙ head-cut file p)))
+    (λ p i. absurd (true≢false (sym g ∙ head-none file (listed-end file 0 p))))
+    (λ p i. absurd (true≢false (sym g ∙ head-none file (ap listed p))))
     (λ r. go r (eqb (u16At file 1) 5) refl)
   where
     go : 0 + 3 + u16At file 1 ≤ length file → (b : Bool) → eqb (u16At file 1) 5 ≡ b → HeadHere file
@@ -186,7 +178,7 @@ first-inside p file at e = go (leb (suc at) (length file)) refl
   where
     go : (b : Bool) → leb (suc at) (length file) ≡ b → at < length file
     go true q = leb-true (suc at) (length file) q
-    go false q = absurd (true≢false (sym e ∙ first-end p file at (ended q)))
+    go false q = absurd (true≢false (sym e ∙ first-none p file at (listed-end file at (ended q))))
       where
         ended : leb (suc at) (length file) ≡ false → length file ≤ at
         ended q = let l = leb-false (suc at) (length file) q in omega arith

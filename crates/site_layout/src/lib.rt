@@ -72,8 +72,7 @@ pub fn head_good(file: &[u8]) -> bool
             }
             head_values(file, h.start)
         }
-        Item::Cut => false,
-        Item::End => false,
+        _ => false,
     }
 }
 
@@ -88,8 +87,7 @@ fn is_state(file: &[u8], at: usize) -> bool
             }
             h.len == STATE_SIZE
         }
-        Item::Cut => false,
-        Item::End => false,
+        _ => false,
     }
 }
 
@@ -125,8 +123,7 @@ fn is_motion(file: &[u8], at: usize) -> bool
             }
             motion_length(h.len)
         }
-        Item::Cut => false,
-        Item::End => false,
+        _ => false,
     }
 }
 

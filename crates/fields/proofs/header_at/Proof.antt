@@ -1,8 +1,8 @@
 -- `fields::header_at` meets its contract.
 -- Assumes nothing.
-use mathlib.Core.Path.{sym, _∙_}
-use mathlib.Core.Bool.{true≢false}
-use Rattle.fields.proofs.Laws.{is-end, is-cut, is-field, whole-complete, cut-incomplete}
+use mathlib.Core.Path.{refl, sym, ap, _∙_}
+use lib.ListN.{length}
+use Rattle.fields.proofs.Laws.{no-field, is-field, whole-complete, next-is}
 use native.Mathlib.Omega.{arith}
 use borrow.Author.Needs.{needs}
 use Rattle.fields.proofs.header_at.Statement.{statement}
@@ -14,17 +14,8 @@ read-item-requires c κs = search needs
 enum-known-h : tie.Need-enum-known-h
 enum-known-h c = search needs
 
-enum-told : tie.Need-enum-told
-enum-told c = search needs
-
 no-field-requires : tie.Need-no-field-requires
 no-field-requires c κs = search needs
-
-enum-told-2 : tie.Need-enum-told-2
-enum-told-2 c = search needs
-
-no-field-requires-2 : tie.Need-no-field-requires-2
-no-field-requires-2 c κs = search needs
 
 returns : tie.Need-returns
 returns c =
@@ -35,16 +26,11 @@ returns c =
 
 returns-2 : tie.Need-returns-2
 returns-2 c =
-    let a = c .before .before .before .before .before .args in
-    let f = a .s .now in
-    let e = is-cut f (a .at) (sym (c .before .enum-told .given .1) ∙ c .before .before .before .read-item .ensures) in
-    absurd (true≢false (sym (c .before .before .before .before .before .pre .0) ∙ cut-incomplete f (a .at) e))
-
-returns-3 : tie.Need-returns-3
-returns-3 c =
-    let a = c .before .before .before .before .before .args in
-    let p = c .before .before .before .before .before .pre .1 in
-    let e = is-end (a .s .now) (a .at) (sym (c .before .enum-told2 .given .1) ∙ c .before .before .before .read-item .ensures) in
+    let b = c .before .before .before .before in
+    let item = c .before .before .read-item in
+    let none = no-field (b .args .s .now) (b .args .at) (item .result) (c .before .match .keys2) (item .ensures) in
+    let some = next-is (b .args .s .now) (b .args .at) _ _ (b .pre .0) (b .pre .1) refl refl .list in
+    let size = ap length (sym none ∙ some) in
     absurd (omega arith)
 
 pub header-at-spec : {M : Type 1} → statement M
@@ -53,10 +39,6 @@ header-at-spec =
     (tie.spec
     read-item-requires
     enum-known-h
-    enum-told
     no-field-requires
-    enum-told-2
-    no-field-requires-2
     returns
-    returns-2
-    returns-3)
+    returns-2)

@@ -1,8 +1,8 @@
 -- `light_read::is_light` meets its contract.
 -- Assumes nothing.
 use mathlib.Core.Path.{sym, _∙_}
-use Rattle.fields.proofs.Laws.{is-end, is-cut, is-field, at-end}
-use Rattle.light_read.proofs.HeadLaws.{light-long, light-cut, light-end, light-field}
+use Rattle.fields.proofs.Laws.{no-field, is-field}
+use Rattle.light_read.proofs.HeadLaws.{light-long, light-none, light-field}
 use native.Mathlib.Omega.{arith}
 use borrow.Author.Needs.{needs}
 use Rattle.light_read.proofs.is_light.Statement.{statement}
@@ -20,12 +20,6 @@ enum-known-h c = search needs
 head-then-steps-requires : tie.Need-head-then-steps-requires
 head-then-steps-requires c κs = search needs
 
-enum-told : tie.Need-enum-told
-enum-told c = search needs
-
-enum-told-2 : tie.Need-enum-told-2
-enum-told-2 c = search needs
-
 returns-2 : tie.Need-returns-2
 returns-2 c =
     let s = c .before .before .before .before .before .before .before .args .s .now in
@@ -34,13 +28,8 @@ returns-2 c =
 
 returns-3 : tie.Need-returns-3
 returns-3 c =
-    let s = c .before .before .before .before .before .args .s .now in
-    sym (light-cut s (is-cut s 0 (sym (c .enum-told .given .1) ∙ c .before .before .read-item .ensures)))
-
-returns-4 : tie.Need-returns-4
-returns-4 c =
-    let s = c .before .before .before .before .before .args .s .now in
-    sym (light-end s (at-end s 0 (is-end s 0 (sym (c .enum-told2 .given .1) ∙ c .before .before .read-item .ensures))))
+    let item = c .before .read-item in
+    sym (light-none _ (no-field _ 0 (item .result) (c .match .keys2) (item .ensures)))
 
 pub is-light-spec : {M : Type 1} → statement M
 is-light-spec =
@@ -50,8 +39,5 @@ is-light-spec =
     read-item-requires
     enum-known-h
     head-then-steps-requires
-    enum-told
-    enum-told-2
     returns-2
-    returns-3
-    returns-4)
+    returns-3)

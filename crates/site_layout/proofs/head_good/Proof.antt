@@ -1,8 +1,8 @@
 -- `site_layout::head_good` meets its contract.
 -- Assumes nothing.
 use mathlib.Core.Path.{sym, _∙_}
-use Rattle.site_layout.proofs.Laws.{head-end, head-cut, head-tag, head-length, head-values}
-use Rattle.fields.proofs.Laws.{is-end, is-cut, is-field}
+use Rattle.site_layout.proofs.Laws.{head-none, head-tag, head-length, head-values}
+use Rattle.fields.proofs.Laws.{no-field, is-field}
 use native.Mathlib.Omega.{arith}
 use borrow.Author.Needs.{needs}
 use Rattle.site_layout.proofs.head_good.Statement.{statement}
@@ -35,12 +35,6 @@ head-values-requires c κs =
     let n = w .next in
     omega arith
 
-enum-told : tie.Need-enum-told
-enum-told c = search needs
-
-enum-told-2 : tie.Need-enum-told-2
-enum-told-2 c = search needs
-
 returns-3 : tie.Need-returns-3
 returns-3 c =
     let f = c .before .before .before .before .before .before .before .before .before .before .args .file .now in
@@ -49,13 +43,9 @@ returns-3 c =
 
 returns-4 : tie.Need-returns-4
 returns-4 c =
-    let f = c .before .before .before .before .args .file .now in
-    sym (head-cut f (is-cut f 0 (sym (c .enum-told .given .1) ∙ c .before .before .read-item .ensures)))
-
-returns-5 : tie.Need-returns-5
-returns-5 c =
-    let f = c .before .before .before .before .args .file .now in
-    sym (head-end f (is-end f 0 (sym (c .enum-told2 .given .1) ∙ c .before .before .read-item .ensures)))
+    let b = c .before .before .before .args in
+    let item = c .before .read-item in
+    sym (head-none (b .file .now) (no-field _ _ (item .result) (c .match .keys2) (item .ensures)))
 
 pub head-good-spec : {M : Type 1} → statement M
 head-good-spec =
@@ -66,8 +56,5 @@ head-good-spec =
     returns
     returns-2
     head-values-requires
-    enum-told
-    enum-told-2
     returns-3
-    returns-4
-    returns-5)
+    returns-4)

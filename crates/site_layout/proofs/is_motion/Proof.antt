@@ -2,8 +2,8 @@
 -- Assumes nothing.
 use mathlib.Core.Path.{sym, _∙_}
 use Rattle.meaning.specs.Site.{isMotion}
-use Rattle.site_layout.proofs.Laws.{first-cut, first-end, motion-tag, motion-is}
-use Rattle.fields.proofs.Laws.{is-end, is-cut, is-field}
+use Rattle.site_layout.proofs.Laws.{first-none, motion-tag, motion-is}
+use Rattle.fields.proofs.Laws.{no-field, is-field}
 use borrow.Author.Needs.{needs}
 use Rattle.site_layout.proofs.is_motion.Statement.{statement}
 use Rattle.site_layout.proofs.is_motion.Tie as tie
@@ -23,12 +23,6 @@ returns c =
 motion-length-requires : tie.Need-motion-length-requires
 motion-length-requires c κs = search needs
 
-enum-told : tie.Need-enum-told
-enum-told c = search needs
-
-enum-told-2 : tie.Need-enum-told-2
-enum-told-2 c = search needs
-
 returns-2 : tie.Need-returns-2
 returns-2 c =
     let f = c .before .before .before .before .before .before .before .before .args .file .now in
@@ -37,13 +31,9 @@ returns-2 c =
 
 returns-3 : tie.Need-returns-3
 returns-3 c =
-    let f = c .before .before .before .before .args .file .now in
-    sym (first-cut isMotion f (c .before .before .before .before .args .at) (is-cut f (c .before .before .before .before .args .at) (sym (c .enum-told .given .1) ∙ c .before .before .read-item .ensures)))
-
-returns-4 : tie.Need-returns-4
-returns-4 c =
-    let f = c .before .before .before .before .args .file .now in
-    sym (first-end isMotion f (c .before .before .before .before .args .at) (is-end f (c .before .before .before .before .args .at) (sym (c .enum-told2 .given .1) ∙ c .before .before .read-item .ensures)))
+    let b = c .before .before .before .args in
+    let item = c .before .read-item in
+    sym (first-none isMotion (b .file .now) (b .at) (no-field _ _ (item .result) (c .match .keys2) (item .ensures)))
 
 pub is-motion-spec : {M : Type 1} → statement M
 is-motion-spec =
@@ -53,8 +43,5 @@ is-motion-spec =
     enum-known-h
     returns
     motion-length-requires
-    enum-told
-    enum-told-2
     returns-2
-    returns-3
-    returns-4)
+    returns-3)

@@ -2,8 +2,8 @@
 -- Assumes nothing.
 use mathlib.Core.Path.{sym, _∙_}
 use Rattle.meaning.specs.Site.{isState}
-use Rattle.site_layout.proofs.Laws.{first-cut, first-end, state-tag, state-is}
-use Rattle.fields.proofs.Laws.{is-end, is-cut, is-field}
+use Rattle.site_layout.proofs.Laws.{first-none, state-tag, state-is}
+use Rattle.fields.proofs.Laws.{no-field, is-field}
 use borrow.Author.Needs.{needs}
 use Rattle.site_layout.proofs.is_state.Statement.{statement}
 use Rattle.site_layout.proofs.is_state.Tie as tie
@@ -20,12 +20,6 @@ returns c =
     let w = is-field f (c .before .before .before .before .before .before .before .args .at) _ (sym (c .before .before .before .h .given .1) ∙ c .before .before .before .before .before .read-item .ensures) in
     sym (state-tag f (c .before .before .before .before .before .before .before .args .at) _ w (c .if1 .taken))
 
-enum-told : tie.Need-enum-told
-enum-told c = search needs
-
-enum-told-2 : tie.Need-enum-told-2
-enum-told-2 c = search needs
-
 returns-2 : tie.Need-returns-2
 returns-2 c =
     let f = c .before .before .before .before .before .before .before .before .args .file .now in
@@ -34,13 +28,9 @@ returns-2 c =
 
 returns-3 : tie.Need-returns-3
 returns-3 c =
-    let f = c .before .before .before .before .args .file .now in
-    sym (first-cut isState f (c .before .before .before .before .args .at) (is-cut f (c .before .before .before .before .args .at) (sym (c .enum-told .given .1) ∙ c .before .before .read-item .ensures)))
-
-returns-4 : tie.Need-returns-4
-returns-4 c =
-    let f = c .before .before .before .before .args .file .now in
-    sym (first-end isState f (c .before .before .before .before .args .at) (is-end f (c .before .before .before .before .args .at) (sym (c .enum-told2 .given .1) ∙ c .before .before .read-item .ensures)))
+    let b = c .before .before .before .args in
+    let item = c .before .read-item in
+    sym (first-none isState (b .file .now) (b .at) (no-field _ _ (item .result) (c .match .keys2) (item .ensures)))
 
 pub is-state-spec : {M : Type 1} → statement M
 is-state-spec =
@@ -49,8 +39,5 @@ is-state-spec =
     read-item-requires
     enum-known-h
     returns
-    enum-told
-    enum-told-2
     returns-2
-    returns-3
-    returns-4)
+    returns-3)
