@@ -19,7 +19,7 @@ use Rattle.fields.specs.Places.{fieldsAt, fieldAt, Whole}
 use Rattle.fields.proofs.Laws.{whole-at, whole-length, field-tag, value-byte, by-place, at-next, value-length, at-end}
 use Rattle.light.specs.Heads.{headOf}
 use Rattle.light.specs.Sizes.{firstStep}
-use Rattle.light_read.specs.Steps.{stepsFrom, laidFrom}
+use Rattle.light_steps.specs.Steps.{stepsFrom, laidFrom}
 
 -- ---- when bytes are a light
 

@@ -1,2 +1,1 @@
-pub mod StepLaws
 pub mod HeadLaws

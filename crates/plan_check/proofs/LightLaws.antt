@@ -19,9 +19,9 @@ use Rattle.meaning.specs.Calls.{isAt, lightValid, startNamed, stepNamed, lightN
 use Rattle.meaning.proofs.BasicsLaws.{every-at, every-fails}
 use Rattle.light.specs.Heads.{headOf}
 use Rattle.light.specs.declared.Head.{Head}
-use Rattle.light_read.specs.Steps.{stepsFrom}
+use Rattle.light_steps.specs.Steps.{stepsFrom}
 use Rattle.light_read.proofs.HeadLaws.{accepted}
-use Rattle.light_read.proofs.StepLaws.{On}
+use Rattle.light_steps.proofs.StepLaws.{On}
 use Rattle.plan_steps.specs.declared.Node.{Node}
 use Rattle.plan_steps.specs.Nodes.{nodeOf, Here}
 use Rattle.plan_check.specs.Walks.{startIn}

@@ -10,8 +10,8 @@ use Rattle.meaning.specs.Board.{Free}
 use Rattle.meaning.specs.Plan as Plan
 use Rattle.meaning.specs.Plan.{allowed, walk}
 use Rattle.meaning.proofs.ReachLaws.{walk-step}
-use Rattle.light_read.specs.Steps.{laidFrom, stepsFrom}
-use Rattle.light_read.proofs.StepLaws.{On}
+use Rattle.light_steps.specs.Steps.{laidFrom, stepsFrom}
+use Rattle.light_steps.proofs.StepLaws.{On}
 use Rattle.plan_steps.specs.declared.Node.{Node}
 use Rattle.plan_steps.specs.Nodes.{nodeOf, Here}
 use Rattle.plan_steps.proofs.NodeLaws.{Next}

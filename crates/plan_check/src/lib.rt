@@ -1,6 +1,6 @@
 // A light's plan: does the walk of its steps hold on the board, and are the numbers that it names the site's.
 use light::Head;
-use light_read::Step;
+use light_steps::Step;
 use plan_steps::Node;
 use site::Sizes;
 use site::Trip;
@@ -19,7 +19,7 @@ ghost use Rattle.meaning.specs.Board.{free};
 ghost use Rattle.meaning.specs.Plan.{walk, startFree};
 ghost use Rattle.meaning.specs.Light.{isLight, lightOf};
 ghost use Rattle.meaning.specs.Calls.{isAt, lightValid, startNamed, stepNamed, lightNamed};
-ghost use Rattle.light_read.specs.Steps.{laidFrom, stepsFrom};
+ghost use Rattle.light_steps.specs.Steps.{laidFrom, stepsFrom};
 ghost use Rattle.site.specs.Check.{sizesOf};
 ghost use Rattle.site_read.specs.Motions.{Index};
 ghost use Rattle.site.specs.Ready.{Ready};
@@ -86,7 +86,7 @@ fn walk_steps(
     let mut at = first;
     let mut here = start;
     loop {
-        match light_read::step_at(light, at) {
+        match light_steps::step_at(light, at) {
             Step::Wait(n, next) => {
                 let span = Span(n as u32);
                 if !plan_steps::wait_allowed(file, board, sizes, here, span) {
@@ -142,7 +142,7 @@ fn motions_named(light: &[u8], first: usize, motions: usize) -> bool
 {
     let mut at = first;
     loop {
-        match light_read::step_at(light, at) {
+        match light_steps::step_at(light, at) {
             Step::Wait(_, next) => at = next,
             Step::Move(k, next) => {
                 if motions <= k as usize {

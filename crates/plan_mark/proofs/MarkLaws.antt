@@ -21,9 +21,9 @@ use Rattle.site_sweeps.specs.declared.Sweep as ReadSweep
 use Rattle.site_sweeps.proofs.Laws.{restAt, rest-whole, rest-none, rest-next}
 use Rattle.light.specs.Heads.{headOf}
 use Rattle.light.specs.declared.Head.{Head}
-use Rattle.light_read.specs.Steps.{laidFrom, stepsFrom}
+use Rattle.light_steps.specs.Steps.{laidFrom, stepsFrom}
 use Rattle.light_read.proofs.HeadLaws.{accepted}
-use Rattle.light_read.proofs.StepLaws.{On}
+use Rattle.light_steps.proofs.StepLaws.{On}
 use Rattle.site.specs.declared.Sizes.{Sizes}
 use Rattle.plan_steps.specs.declared.Node.{Node}
 use Rattle.site.specs.Ready.{Ready}

@@ -1,5 +1,5 @@
 // Marking: writes a tug's number over the pairs that a light's plan holds.
-use light_read::Step;
+use light_steps::Step;
 use plan_steps::Node;
 use site::Sizes;
 use site_layout::MOTION_LIMIT;
@@ -17,7 +17,7 @@ ghost use Rattle.meaning.specs.Plan.{wait, sweptPairs, stepPairs, walkPairs};
 ghost use Rattle.meaning.specs.Light.{isLight, lightOf};
 ghost use Rattle.meaning.specs.Calls.{lightValid, lightPairs};
 ghost use Rattle.site_sweeps.specs.Places.{sweepsAt};
-ghost use Rattle.light_read.specs.Steps.{laidFrom, stepsFrom};
+ghost use Rattle.light_steps.specs.Steps.{laidFrom, stepsFrom};
 ghost use Rattle.site_read.specs.Motions.{Index};
 ghost use Rattle.site.specs.Ready.{Ready};
 ghost use Rattle.plan_steps.specs.Sweeps.{Sweeps, Swept};
@@ -90,7 +90,7 @@ fn mark_steps(
     let mut at = first;
     let mut here = start;
     loop {
-        match light_read::step_at(light, at) {
+        match light_steps::step_at(light, at) {
             Step::Wait(n, next) => {
                 let span = Span(n as u32);
                 mark_wait(file, board, sizes, here, span, tug);

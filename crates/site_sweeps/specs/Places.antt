@@ -1,12 +1,11 @@
 -- Sweeps by their place in a site file.
 -- Assumes nothing.
-use Prim.Native.Nat.{ℕ, _+_, _*_, _≤_, _<_}
+use Prim.Native.Nat.{ℕ, _+_, _*_, _<_}
 use mathlib.Core.Path.{_≡_}
 use mathlib.Core.List.{List}
-use mathlib.Core.Bool.{true}
 use lib.ListN.{take, drop, getD}
 use Rattle.meaning.specs.Limits.{sweepSize}
-use Rattle.meaning.specs.Site.{Sweep, sweepsOf, handover}
+use Rattle.meaning.specs.Site.{Sweep, sweepsOf}
 use Rattle.site_sweeps.specs.declared.Sweep as ReadSweep
 
 -- the sweep at the place at
@@ -16,16 +15,6 @@ sweepAt file at = record { cell = getD file at 0; first = getD file (at + 1) 0; 
 -- n sweeps from the place at on
 unfoldable pub sweepsAt : List ℕ → ℕ → ℕ → List Sweep
 sweepsAt file at n = sweepsOf (take (sweepSize * n) (drop at file))
-
--- the sweep w uses each offset from j to r
-pub record Within (w : Sweep) (j r : ℕ) : Type 0 where
-  pub on : j ≤ r
-  pub inside : j < r → (w .first ≤ j) × (r ≤ w .last)
-
--- there is a handover at each offset from j on and below r
-pub record Linked (ws : List Sweep) (j r : ℕ) : Type 0 where
-  pub on : j ≤ r
-  pub each : (i : ℕ) → j ≤ i → i < r → handover ws i ≡ true
 
 -- the sweep that was read
 abbrev pub sweepOf : ReadSweep.Sweep → Sweep

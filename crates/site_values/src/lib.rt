@@ -56,7 +56,7 @@ fn motion_good(file: &[u8], at: usize, count: usize, cells: usize) -> bool
     if ends_good(from, to, span, count) {
         let x = site_read::state_cell(file, from);
         let y = site_read::state_cell(file, to);
-        site_sweeps::sweeps_pass(file, first, sweeps, span, cells, x, y)
+        site_handover::sweeps_pass(file, first, sweeps, span, cells, x, y)
     } else {
         false
     }

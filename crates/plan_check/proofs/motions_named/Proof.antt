@@ -8,8 +8,8 @@ use lib.ListN.{length}
 use Rattle.meaning.specs.Basics.{all}
 use Rattle.meaning.specs.Site.{Site}
 use Rattle.meaning.specs.Calls.{stepNamed}
-use Rattle.light_read.specs.Steps.{laidFrom, stepsFrom}
-use Rattle.light_read.proofs.StepLaws.{wait-on, move-on, end-on, never-wrong}
+use Rattle.light_steps.specs.Steps.{laidFrom, stepsFrom}
+use Rattle.light_steps.proofs.StepLaws.{wait-on, move-on, end-on, never-wrong}
 use borrow.Author.Needs.{needs}
 use native.Mathlib.Omega.{arith}
 use Rattle.plan_check.proofs.motions_named.Statement.{statement}

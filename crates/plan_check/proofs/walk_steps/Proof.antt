@@ -7,7 +7,7 @@ use borrow.Author.Tests.{not-true, not-false}
 use Rattle.meaning.specs.Site.{siteOf}
 use Rattle.meaning.specs.Board.{free}
 use Rattle.meaning.proofs.ReachLaws.{wait-ends, move-ends}
-use Rattle.light_read.proofs.StepLaws.{wait-on, move-on, end-on, never-wrong}
+use Rattle.light_steps.proofs.StepLaws.{wait-on, move-on, end-on, never-wrong}
 use Rattle.plan_steps.specs.Nodes.{nodeOf}
 use Rattle.plan_steps.proofs.Laws.{known, read-motion}
 use Rattle.plan_steps.proofs.StepLaws.{move-unknown}

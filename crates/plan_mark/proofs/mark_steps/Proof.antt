@@ -7,7 +7,7 @@ use lib.ListN.{length}
 use Rattle.meaning.specs.Site.{Sweep, siteOf}
 use Rattle.meaning.specs.Board.{mark}
 use Rattle.meaning.specs.Plan.{sweptPairs}
-use Rattle.light_read.proofs.StepLaws.{wait-on, move-on, end-on, never-wrong}
+use Rattle.light_steps.proofs.StepLaws.{wait-on, move-on, end-on, never-wrong}
 use Rattle.plan_steps.proofs.Laws.{known, read-motion}
 use Rattle.plan_steps.proofs.NodeLaws.{next-wait, next-move}
 use Rattle.plan_mark.proofs.MarkLaws.{keep, Marking, steps-in-time, marks, marks-end}

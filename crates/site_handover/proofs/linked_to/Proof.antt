@@ -1,4 +1,4 @@
--- `site_sweeps::linked_to` meets its contract. The invariant: what one of the sweeps from i on meets, one of all meets.
+-- `site_handover::linked_to` meets its contract. The invariant: what one of the sweeps from i on meets, one of all meets.
 -- Assumes nothing.
 use Prim.Native.Nat.{_-_}
 use mathlib.Core.Path.{_≡_, sym, ap, _∙_}
@@ -6,11 +6,13 @@ use mathlib.Core.Bool.{Bool, true}
 use borrow.Author.Needs.{needs}
 use Rattle.meaning.specs.Basics.{any}
 use Rattle.meaning.specs.Site.{Sweep}
-use Rattle.site_sweeps.specs.Places.{sweepsAt, sweepOf, Linked}
-use Rattle.site_sweeps.proofs.Laws.{restAt, rest-whole, any-hit, any-later, Among, linked-none, linked-on}
+use Rattle.site_sweeps.specs.Places.{sweepsAt, sweepOf}
+use Rattle.site_handover.specs.Links.{Linked}
+use Rattle.site_sweeps.proofs.Laws.{restAt, rest-whole, any-hit, any-later}
+use Rattle.site_handover.proofs.LinkLaws.{Among, linked-none, linked-on}
 use native.Mathlib.Omega.{arith}
-use Rattle.site_sweeps.proofs.linked_to.Statement.{statement}
-use Rattle.site_sweeps.proofs.linked_to.Tie as tie
+use Rattle.site_handover.proofs.linked_to.Statement.{statement}
+use Rattle.site_handover.proofs.linked_to.Tie as tie
 
 abbrev Inv-loop : tie.InvT-loop
 Inv-loop file at count j end₀ i₀ end i =

@@ -1,10 +1,10 @@
--- `site_sweeps::sweeps_pass` meets its contract.
+-- `site_handover::sweeps_pass` meets its contract.
 -- Assumes nothing.
 use borrow.Author.Needs.{needs}
 use mathlib.Core.Path.{sym, _∙_}
 use Rattle.meaning.specs.Site.{sweepsGood}
-use Rattle.site_sweeps.proofs.sweeps_pass.Statement.{statement}
-use Rattle.site_sweeps.proofs.sweeps_pass.Tie as tie
+use Rattle.site_handover.proofs.sweeps_pass.Statement.{statement}
+use Rattle.site_handover.proofs.sweeps_pass.Tie as tie
 
 sweeps-good-requires : tie.Need-sweeps-good-requires
 sweeps-good-requires c κs = search needs

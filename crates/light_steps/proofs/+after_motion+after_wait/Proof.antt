@@ -1,22 +1,22 @@
--- `light_read::after_motion` and `light_read::after_wait` meet their contracts. The measure of each is the number of bytes that are left.
+-- `light_steps::after_motion` and `light_steps::after_wait` meet their contracts. The measure of each is the number of bytes that are left.
 -- Assumes nothing.
 use mathlib.Core.Path.{sym, _∙_}
 use mathlib.Core.Bool.{true, false}
 use lib.ListN.{length}
-use Rattle.light_read.proofs.StepLaws.{is-move, is-wait, move-laid, wait-laid, end-laid, wrong-laid}
+use Rattle.light_steps.proofs.StepLaws.{is-move, is-wait, move-laid, wait-laid, end-laid, wrong-laid}
 use borrow.Author.Needs.{needs}
 use Prim.Native.Nat.{ℕ, _-_, _<_}
 use borrow.Fn.Kinds.{In}
 use borrow.Fn.PlainCycle.{Measures, is, falls, and}
-use Rattle.light_read.proofs.after_motion.Reads as after-motion
-use Rattle.light_read.proofs.after_motion.Kinds as after-motion-kinds
-use Rattle.light_read.proofs.+after_motion+after_wait.Lts-after_motion as after-motion-lts
-use Rattle.light_read.proofs.after_wait.Reads as after-wait
-use Rattle.light_read.proofs.after_wait.Kinds as after-wait-kinds
-use Rattle.light_read.proofs.+after_motion+after_wait.Lts-after_wait as after-wait-lts
-use Rattle.light_read.proofs.step_at.Reads as step-at-reads
-use Rattle.light_read.proofs.+after_motion+after_wait.{statement}
-use Rattle.light_read.proofs.+after_motion+after_wait.Tie.{close}
+use Rattle.light_steps.proofs.after_motion.Reads as after-motion
+use Rattle.light_steps.proofs.after_motion.Kinds as after-motion-kinds
+use Rattle.light_steps.proofs.+after_motion+after_wait.Lts-after_motion as after-motion-lts
+use Rattle.light_steps.proofs.after_wait.Reads as after-wait
+use Rattle.light_steps.proofs.after_wait.Kinds as after-wait-kinds
+use Rattle.light_steps.proofs.+after_motion+after_wait.Lts-after_wait as after-wait-lts
+use Rattle.light_steps.proofs.step_at.Reads as step-at-reads
+use Rattle.light_steps.proofs.+after_motion+after_wait.{statement}
+use Rattle.light_steps.proofs.+after_motion+after_wait.Tie.{close}
 
 abbrev μ-after-motion : Measures 1 after-motion-kinds.ps ℕ
 μ-after-motion κs a = length (a .0 .now) - a .1 .0

@@ -1,8 +1,8 @@
--- `site_sweeps::last_from` meets its contract: the sweep has begun at j, and has not ended before it.
+-- `site_handover::last_from` meets its contract: the sweep has begun at j, and has not ended before it.
 -- Assumes nothing.
 use native.Mathlib.Omega.{arith}
-use Rattle.site_sweeps.proofs.last_from.Statement.{statement}
-use Rattle.site_sweeps.proofs.last_from.Tie as tie
+use Rattle.site_handover.proofs.last_from.Statement.{statement}
+use Rattle.site_handover.proofs.last_from.Tie as tie
 
 returns : tie.Need-returns
 returns c = record { on = omega arith; inside = λ h. absurd (omega arith) }

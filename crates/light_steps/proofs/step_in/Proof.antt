@@ -1,13 +1,13 @@
--- `light_read::step_in` meets its contract.
+-- `light_steps::step_in` meets its contract.
 -- Assumes nothing.
 use Prim.Native.Nat.{ℕ}
 use mathlib.Core.Path.{sym, ap, _∙_}
-use Rattle.light_read.specs.declared.Step.the-variants.{Wait, Move}
-use Rattle.light_read.proofs.StepLaws.{in-size, in-move, in-other, in-zero, in-wait}
+use Rattle.light_steps.specs.declared.Step.the-variants.{Wait, Move}
+use Rattle.light_steps.proofs.StepLaws.{in-size, in-move, in-other, in-zero, in-wait}
 use native.Mathlib.Omega.{arith}
 use borrow.Author.Needs.{needs}
-use Rattle.light_read.proofs.step_in.Statement.{statement}
-use Rattle.light_read.proofs.step_in.Tie as tie
+use Rattle.light_steps.proofs.step_in.Statement.{statement}
+use Rattle.light_steps.proofs.step_in.Tie as tie
 
 returns : tie.Need-returns
 returns c = sym (in-size _ _ _ _ (c .if1 .taken))

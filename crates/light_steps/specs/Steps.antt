@@ -11,8 +11,8 @@ use Rattle.meaning.specs.Fields.{Fields, end, cut, next, complete, listed}
 use Rattle.meaning.specs.Light.{isMove, isWait, inLayout, stepOf}
 use Rattle.meaning.specs.Plan as Plan
 use Rattle.fields.specs.Places.{fieldsAt}
-use Rattle.light_read.specs.declared.Step.{Step}
-use Rattle.light_read.specs.declared.Step.the-variants.{Wait, Move, End, Wrong}
+use Rattle.light_steps.specs.declared.Step.{Step}
+use Rattle.light_steps.specs.declared.Step.the-variants.{Wait, Move, End, Wrong}
 
 -- ---- the steps from a place on
 

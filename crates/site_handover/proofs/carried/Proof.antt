@@ -1,9 +1,9 @@
--- `site_sweeps::carried` meets its contract.
+-- `site_handover::carried` meets its contract.
 -- Assumes nothing.
 use borrow.Author.Needs.{needs}
 use mathlib.Core.Path.{sym, _∙_}
-use Rattle.site_sweeps.proofs.carried.Statement.{statement}
-use Rattle.site_sweeps.proofs.carried.Tie as tie
+use Rattle.site_handover.proofs.carried.Statement.{statement}
+use Rattle.site_handover.proofs.carried.Tie as tie
 
 used-requires : tie.Need-used-requires
 used-requires c κs = search needs

@@ -1,4 +1,4 @@
--- `site_sweeps::all_handed_over` meets its contract.
+-- `site_handover::all_handed_over` meets its contract.
 -- Assumes nothing.
 use borrow.Author.Needs.{needs}
 use Prim.Native.Nat.{_-_}
@@ -6,11 +6,11 @@ use mathlib.Core.Path.{_≡_, sym}
 use mathlib.Core.Bool.{true}
 use Rattle.meaning.specs.Basics.{allBelow}
 use Rattle.meaning.specs.Site.{handover}
 use Rattle.site_sweeps.specs.Places.{sweepsAt}
-use Rattle.site_sweeps.proofs.Laws.{below-zero, below-miss, below-less, linked-below}
+use Rattle.site_handover.proofs.LinkLaws.{below-zero, below-miss, below-less, linked-below}
 use native.Mathlib.Omega.{arith}
-use Rattle.site_sweeps.proofs.all_handed_over.Statement.{statement}
-use Rattle.site_sweeps.proofs.all_handed_over.Tie as tie
+use Rattle.site_handover.proofs.all_handed_over.Statement.{statement}
+use Rattle.site_handover.proofs.all_handed_over.Tie as tie
 
 abbrev Inv-loop : tie.InvT-loop
 Inv-loop file at count span j₀ j = allBelow (handover (sweepsAt file at count)) j ≡ true

@@ -1,15 +1,15 @@
--- `site_sweeps::handed_over` meets its contract. The invariant: the sweeps from i on answer as all do.
+-- `site_handover::handed_over` meets its contract. The invariant: the sweeps from i on answer as all do.
 -- Assumes nothing.
 use Prim.Native.Nat.{_-_}
 use mathlib.Core.Path.{_≡_, sym, ap, _∙_}
 use borrow.Author.Needs.{needs}
 use Rattle.meaning.specs.Basics.{any}
 use Rattle.meaning.specs.Site.{carries, handover}
 use Rattle.site_sweeps.specs.Places.{sweepsAt}
 use Rattle.site_sweeps.proofs.Laws.{restAt, rest-whole, read-test, any-none, any-hit, any-miss}
 use native.Mathlib.Omega.{arith}
-use Rattle.site_sweeps.proofs.handed_over.Statement.{statement}
-use Rattle.site_sweeps.proofs.handed_over.Tie as tie
+use Rattle.site_handover.proofs.handed_over.Statement.{statement}
+use Rattle.site_handover.proofs.handed_over.Tie as tie
 
 abbrev Inv-loop : tie.InvT-loop
 Inv-loop file at count j i₀ i =

@@ -18,9 +18,9 @@ use Rattle.meaning.proofs.LightLaws.{move-tests, wait-tests}
 use Rattle.fields.specs.declared.Header.{Header}
 use Rattle.fields.specs.Places.{fieldsAt, fieldAt, Whole}
 use Rattle.fields.proofs.Laws.{at-end, at-next, by-place, value-length, value-u16, field-tag, whole-length}
-use Rattle.light_read.specs.Steps.{stepsFrom, laidFrom, stepBy, stepIn, firstStep, stepAt}
-use Rattle.light_read.specs.declared.Step.{Step}
-use Rattle.light_read.specs.declared.Step.the-variants.{Wait, Move, End, Wrong}
+use Rattle.light_steps.specs.Steps.{stepsFrom, laidFrom, stepBy, stepIn, firstStep, stepAt}
+use Rattle.light_steps.specs.declared.Step.{Step}
+use Rattle.light_steps.specs.declared.Step.the-variants.{Wait, Move, End, Wrong}
 
 -- ---- the step in a field, from the numbers of its header
 

@@ -1,11 +1,11 @@
--- `site_sweeps::handed_to` meets its contract.
+-- `site_handover::handed_to` meets its contract.
 -- Assumes nothing.
 use borrow.Author.Needs.{needs}
 use mathlib.Core.Path.{sym, _∙_}
 use native.Mathlib.Omega.{arith}
-use Rattle.site_sweeps.proofs.Laws.{linked-none, linked-next}
-use Rattle.site_sweeps.proofs.handed_to.Statement.{statement}
-use Rattle.site_sweeps.proofs.handed_to.Tie as tie
+use Rattle.site_handover.proofs.LinkLaws.{linked-none, linked-next}
+use Rattle.site_handover.proofs.handed_to.Statement.{statement}
+use Rattle.site_handover.proofs.handed_to.Tie as tie
 
 linked-to-requires : tie.Need-linked-to-requires
 linked-to-requires c κs = search needs

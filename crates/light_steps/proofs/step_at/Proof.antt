@@ -1,12 +1,12 @@
--- `light_read::step_at` meets its contract.
+-- `light_steps::step_at` meets its contract.
 -- Assumes nothing.
 use mathlib.Core.Path.{sym, _∙_}
 use Rattle.fields.proofs.Laws.{is-end, is-cut, is-field}
-use Rattle.light_read.proofs.StepLaws.{at-end-step, at-cut-step, at-field-step}
+use Rattle.light_steps.proofs.StepLaws.{at-end-step, at-cut-step, at-field-step}
 use native.Mathlib.Omega.{arith}
 use borrow.Author.Needs.{needs}
-use Rattle.light_read.proofs.step_at.Statement.{statement}
-use Rattle.light_read.proofs.step_at.Tie as tie
+use Rattle.light_steps.proofs.step_at.Statement.{statement}
+use Rattle.light_steps.proofs.step_at.Tie as tie
 
 read-item-requires : tie.Need-read-item-requires
 read-item-requires c κs = search needs
