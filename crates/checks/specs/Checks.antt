@@ -3,7 +3,7 @@
 use Prim.Native.Nat.{ℕ, zero, suc}
 use mathlib.Core.Bool.{cond}
 use mathlib.Core.List.{List, [], _∷_}
-use lib.Dec.{leb, ltb}
+use lib.Dec.{eqb}
 use Rattle.meaning.specs.Answers.{Refusal}
 use Rattle.meaning.specs.Site.{Site}
 use Rattle.site.specs.Check.{sizesOf}
@@ -21,14 +21,14 @@ byNumber l (suc n) = Refused (suc n)
 abbrev pub checkBy : Site → ℕ → Check
 checkBy site n = byNumber (sizesOf site) n
 
--- ---- a list whose numbers rise, in two parts
+-- ---- a list of refusals in two parts, whatever the order of its numbers
 
--- from the number n on
+-- from the one with the number n on
 abbrev pub fromNumber : ℕ → List Refusal → List Refusal
 fromNumber n [] = []
-fromNumber n (r ∷ rs) = cond (ltb (r .number) n) (fromNumber n rs) (r ∷ rs)
+fromNumber n (r ∷ rs) = cond (eqb (r .number) n) (r ∷ rs) (fromNumber n rs)
 
--- up to the number n
+-- up to the one with the number n
 abbrev pub upToNumber : ℕ → List Refusal → List Refusal
 upToNumber n [] = []
-upToNumber n (r ∷ rs) = cond (leb (r .number) n) (r ∷ upToNumber n rs) []
+upToNumber n (r ∷ rs) = r ∷ cond (eqb (r .number) n) [] (upToNumber n rs)

@@ -18,6 +18,7 @@ use Rattle.meaning.specs.Reach.{wordBy, rowsTo, reachWord, reached, wordIn}
 use Rattle.meaning.specs.WellFormed.{WellFormed}
 use Rattle.meaning.proofs.BasicsLaws.{decide, and-left, and-right, every-at, every-nil, every-cons, least-same, least-snoc, least-more, same-test}
 use Rattle.meaning.proofs.ReachLaws.{waited, arrives, word-first, word-next, word-row}
+use Rattle.search_sizes.specs.Sizes.{rowTicks}
 use Rattle.search_ticks.specs.Rows.{has}
 use Rattle.search_site.specs.Arrays.{cellAt, speedAt, fromAt, toAt, spanAt}
 use Rattle.search_reach.specs.Reached.{reachedAt, ReachedRows}
@@ -36,7 +37,7 @@ module _ (site : Site) (well : WellFormed site) (f : Free) (a : Node) (n k : ℕ
   first-word true w e = rw e
   first-word false w e = rw e
 
-  at-first : (s : ℕ) → s < n → a .tick < 1024 → cond (has re s (a .tick)) 1 0 ≡ reachWord site f a 0 s
+  at-first : (s : ℕ) → s < n → a .tick < rowTicks → cond (has re s (a .tick)) 1 0 ≡ reachWord site f a 0 s
   at-first s below early =
       let since : a .tick - a .tick ≡ 0 = omega arith in
       let known : s < length (site .states) = omega (arith, sets .decoded .states) in
@@ -46,7 +47,7 @@ module _ (site : Site) (well : WellFormed site) (f : Free) (a : Node) (n k : ℕ
 
   -- ---- later
 
-  module _ (j s t : ℕ) (below : s < n) (is-tick : t ≡ a .tick + suc j) (in-time : t ≤ site .horizon) (early : t < 1024) where
+  module _ (j s t : ℕ) (below : s < n) (is-tick : t ≡ a .tick + suc j) (in-time : t ≤ site .horizon) (early : t < rowTicks) where
     wait-same : waitHit st fr re s t ≡ waited site f a j s
     wait-same =
         let before : t - 1 ≡ a .tick + j = omega arith in

@@ -14,6 +14,7 @@ use Rattle.meaning.specs.Basics.{every}
 use Rattle.meaning.specs.Site.{Site}
 use Rattle.meaning.specs.Board.{free}
 use Rattle.meaning.proofs.BasicsLaws.{decide}
+use Rattle.search_sizes.specs.Sizes.{rowTicks}
 use Rattle.search_ticks.specs.Bits.{odd, bit}
 use Rattle.search_ticks.specs.Rows.{has, ZeroFrom, Changed, rowsFree}
 use Rattle.search_free.specs.Frees.{freeBit, freeWord, freeTo}
@@ -119,8 +120,8 @@ free-row-done b l₀ l c s width room e =
 
 -- the first n cells' rows are done, and the others are empty
 pub record FreeRows (b : List ℕ) (width : ℕ) (l : List ℕ) (n : ℕ) : Type 0 where
-  pub done : (c t : ℕ) → c < n → t < 1024 → has l c t ≡ freeTo b (4 + c * width) width t
-  pub left : (c t : ℕ) → n ≤ c → t < 1024 → has l c t ≡ false
+  pub done : (c t : ℕ) → c < n → t < rowTicks → has l c t ≡ freeTo b (4 + c * width) width t
+  pub left : (c t : ℕ) → n ≤ c → t < rowTicks → has l c t ≡ false
   pub sized : length l ≡ 4096
 
 pub rows-none : (b : List ℕ) (width : ℕ) → FreeRows b width (replicate 4096 0) 0
@@ -156,9 +157,9 @@ module _ (b l : List ℕ) (site : Site) (cells horizon n : ℕ) (few : horizon �
   pub rows-right : (c t : ℕ) → rowsFree l c t ≡ free site b c t
   unfolding rowsFree free every
   rows-right c t =
-      decide (ltb t 1024)
+      decide (ltb t rowTicks)
       (λ early.
-      let lt : t < 1024 = ltb-true t 1024 early in
+      let lt : t < rowTicks = ltb-true t rowTicks early in
       decide (ltb c cells)
       (λ e.
       let inside : c < cells = ltb-true c cells e in
@@ -173,5 +174,5 @@ module _ (b l : List ℕ) (site : Site) (cells horizon n : ℕ) (few : horizon �
       let outside : cells ≤ c = ltb-false c cells e in
       simp early (g .left c t (omega arith) lt ∙ sym (held-past c t (λ i j. omega arith)))))
       (λ late.
-      let past : 1024 ≤ t = ltb-false t 1024 late in
+      let past : rowTicks ≤ t = ltb-false t rowTicks late in
       simp late (sym (held-past c t (λ i j. omega arith))))

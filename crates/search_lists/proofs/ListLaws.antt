@@ -9,20 +9,21 @@ use lib.ListN.{length, getD, set, replicate, length-set, length-replicate, getD-
 use lib.Seq.{getD-set-same, getD-set-other}
 use borrow.Author.Tests.{eqb-true, eqb-false}
 use Rattle.meaning.proofs.BasicsLaws.{decide}
+use Rattle.search_sizes.specs.Sizes.{listed, motionRows, stateRows}
 use Rattle.search_site.specs.Arrays.{fromAt}
 use Rattle.search_lists.specs.Lists.{Chain, here, next, Listed}
 
 -- the motions from m on are on their lists, and no list starts below m
 pub record Listing (k : ℕ) (mv ls : List ℕ) (m : ℕ) : Type 0 where
-  pub sized : length ls ≡ 2256
-  pub starts : (s : ℕ) → s < 256 → m ≤ getD ls (2000 + s) 0
-  pub on : (j : ℕ) → m ≤ j → j < k → Chain ls k (getD ls (2000 + fromAt mv j) 0) j
+  pub sized : length ls ≡ listed
+  pub starts : (s : ℕ) → s < stateRows → m ≤ getD ls (motionRows + s) 0
+  pub on : (j : ℕ) → m ≤ j → j < k → Chain ls k (getD ls (motionRows + fromAt mv j) 0) j
 
-pub listing-none : (k : ℕ) (mv : List ℕ) → k ≤ 2000 → Listing k mv (replicate 2256 2000) k
+pub listing-none : (k : ℕ) (mv : List ℕ) → k ≤ motionRows → Listing k mv (replicate listed motionRows) k
 listing-none k mv few =
     record {
-      sized = length-replicate {A = ℕ} 2256 2000;
-      starts = λ s h. omega (arith, getD-replicate {A = ℕ} 2256 (2000 + s) 2000 0 (omega arith));
+      sized = length-replicate {A = ℕ} listed motionRows;
+      starts = λ s h. omega (arith, getD-replicate {A = ℕ} listed (motionRows + s) motionRows 0 (omega arith));
       on = λ j lo hi. absurd (omega arith);
     }
 
@@ -31,55 +32,55 @@ chain-case (here lt) f g = f refl lt
 chain-case (next lt up c) f g = g lt up c
 
 -- a list whose motions are above i stays when i and the starts change
-chain-kept : (ls ls′ : List ℕ) (k i : ℕ) → k ≤ 2000 → ((j : ℕ) → i < j → j < 2000 → getD ls′ j 0 ≡ getD ls j 0) → {a m : ℕ} → i < a → Chain ls k a m → Chain ls′ k a m
+chain-kept : (ls ls′ : List ℕ) (k i : ℕ) → k ≤ motionRows → ((j : ℕ) → i < j → j < motionRows → getD ls′ j 0 ≡ getD ls j 0) → {a m : ℕ} → i < a → Chain ls k a m → Chain ls′ k a m
 chain-kept ls ls′ k i few same above (here lt) = here lt
 chain-kept ls ls′ k i few same {a = a} {m = m} above (next lt up c) =
     let e : getD ls′ a 0 ≡ getD ls a 0 = same a above (omega arith) in
     next {ls = ls′} {k = k} {a = a} {m = m} lt (omega arith) (subst (λ (x : ℕ). Chain ls′ k x m) (sym e) (chain-kept ls ls′ k i few same (omega arith) c))
 
-pub listing-more : (k : ℕ) (mv ls : List ℕ) (m from : ℕ) → k ≤ 2000 → 0 < m → m ≤ k → from ≡ fromAt mv (m - 1) → from < 256 → ((j : ℕ) → j < k → fromAt mv j < 256) → Listing k mv ls m
-    → Listing k mv (set (set ls (m - 1) (getD ls (2000 + from) 0)) (2000 + from) (m - 1)) (m - 1)
+pub listing-more : (k : ℕ) (mv ls : List ℕ) (m from : ℕ) → k ≤ motionRows → 0 < m → m ≤ k → from ≡ fromAt mv (m - 1) → from < stateRows → ((j : ℕ) → j < k → fromAt mv j < stateRows) → Listing k mv ls m
+    → Listing k mv (set (set ls (m - 1) (getD ls (motionRows + from) 0)) (motionRows + from) (m - 1)) (m - 1)
 listing-more k mv ls m from few pos most is-from small froms g =
     let i : ℕ = m - 1 in
-    let old : ℕ = getD ls (2000 + from) 0 in
+    let old : ℕ = getD ls (motionRows + from) 0 in
     let ls₁ : List ℕ = set ls i old in
-    let ls₂ : List ℕ = set ls₁ (2000 + from) i in
-    let size₁ : length ls₁ ≡ 2256 = simp length-set (g .sized) in
+    let ls₂ : List ℕ = set ls₁ (motionRows + from) i in
+    let size₁ : length ls₁ ≡ listed = simp length-set (g .sized) in
     let size = g .sized in
-    let first : getD ls₂ (2000 + from) 0 ≡ i = getD-set-same ls₁ (2000 + from) i 0 (omega arith) in
-    let after : getD ls₂ i 0 ≡ old = getD-set-other ls₁ (2000 + from) i i 0 (λ e. omega arith) ∙ getD-set-same ls i old 0 (omega arith) in
+    let first : getD ls₂ (motionRows + from) 0 ≡ i = getD-set-same ls₁ (motionRows + from) i 0 (omega arith) in
+    let after : getD ls₂ i 0 ≡ old = getD-set-other ls₁ (motionRows + from) i i 0 (λ e. omega arith) ∙ getD-set-same ls i old 0 (omega arith) in
     let above : m ≤ old = g .starts from small in
-    let same : (j : ℕ) → i < j → j < 2000 → getD ls₂ j 0 ≡ getD ls j 0 =
-    λ j lo hi. getD-set-other ls₁ (2000 + from) j i 0 (λ e. omega arith) ∙ getD-set-other ls i j old 0 (λ e. omega arith) in
-    let elsewhere : (s : ℕ) → (s ≡ from → ⊥) → getD ls₂ (2000 + s) 0 ≡ getD ls (2000 + s) 0 =
-    λ s ne. getD-set-other ls₁ (2000 + from) (2000 + s) i 0 (λ e. ne (omega arith)) ∙ getD-set-other ls i (2000 + s) old 0 (λ e. omega arith) in
+    let same : (j : ℕ) → i < j → j < motionRows → getD ls₂ j 0 ≡ getD ls j 0 =
+    λ j lo hi. getD-set-other ls₁ (motionRows + from) j i 0 (λ e. omega arith) ∙ getD-set-other ls i j old 0 (λ e. omega arith) in
+    let elsewhere : (s : ℕ) → (s ≡ from → ⊥) → getD ls₂ (motionRows + s) 0 ≡ getD ls (motionRows + s) 0 =
+    λ s ne. getD-set-other ls₁ (motionRows + from) (motionRows + s) i 0 (λ e. ne (omega arith)) ∙ getD-set-other ls i (motionRows + s) old 0 (λ e. omega arith) in
     record {
       sized = simp length-set (g .sized);
       starts = λ s h. decide (eqb s from)
-          (λ u. let e : s ≡ from = eqb-true s from u in omega (arith, ap (λ (x : ℕ). getD ls₂ (2000 + x) 0) e, first))
+          (λ u. let e : s ≡ from = eqb-true s from u in omega (arith, ap (λ (x : ℕ). getD ls₂ (motionRows + x) 0) e, first))
           (λ u. omega (arith, elsewhere s (eqb-false s from u), g .starts s h));
       on = λ j lo hi. decide (eqb j i)
           (λ u.
           let e : j ≡ i = eqb-true j i u in
-          let start : getD ls₂ (2000 + fromAt mv j) 0 ≡ j = ap (λ (x : ℕ). getD ls₂ (2000 + fromAt mv x) 0) e ∙ ap (λ (x : ℕ). getD ls₂ (2000 + x) 0) (sym is-from) ∙ first ∙ sym e in
+          let start : getD ls₂ (motionRows + fromAt mv j) 0 ≡ j = ap (λ (x : ℕ). getD ls₂ (motionRows + fromAt mv x) 0) e ∙ ap (λ (x : ℕ). getD ls₂ (motionRows + x) 0) (sym is-from) ∙ first ∙ sym e in
           subst (λ (x : ℕ). Chain ls₂ k x j) (sym start) (here hi))
           (λ u.
           let other : j ≡ i → ⊥ = eqb-false j i u in
-          let was : Chain ls k (getD ls (2000 + fromAt mv j) 0) j = g .on j (omega arith) hi in
+          let was : Chain ls k (getD ls (motionRows + fromAt mv j) 0) j = g .on j (omega arith) hi in
           decide (eqb (fromAt mv j) from)
           (λ v.
           let e : fromAt mv j ≡ from = eqb-true (fromAt mv j) from v in
-          let start : getD ls₂ (2000 + fromAt mv j) 0 ≡ i = ap (λ (x : ℕ). getD ls₂ (2000 + x) 0) e ∙ first in
-          let rest : Chain ls₂ k old j = chain-kept ls ls₂ k i few same (omega arith) (subst (λ (x : ℕ). Chain ls k x j) (ap (λ (x : ℕ). getD ls (2000 + x) 0) e) was) in
+          let start : getD ls₂ (motionRows + fromAt mv j) 0 ≡ i = ap (λ (x : ℕ). getD ls₂ (motionRows + x) 0) e ∙ first in
+          let rest : Chain ls₂ k old j = chain-kept ls ls₂ k i few same (omega arith) (subst (λ (x : ℕ). Chain ls k x j) (ap (λ (x : ℕ). getD ls (motionRows + x) 0) e) was) in
           subst (λ (x : ℕ). Chain ls₂ k x j) (sym start) (next (omega arith) (omega arith) (subst (λ (x : ℕ). Chain ls₂ k x j) (sym after) rest)))
           (λ v.
-          let start : getD ls₂ (2000 + fromAt mv j) 0 ≡ getD ls (2000 + fromAt mv j) 0 = elsewhere (fromAt mv j) (eqb-false (fromAt mv j) from v) in
-          let high : m ≤ getD ls (2000 + fromAt mv j) 0 = g .starts (fromAt mv j) (froms j hi) in
+          let start : getD ls₂ (motionRows + fromAt mv j) 0 ≡ getD ls (motionRows + fromAt mv j) 0 = elsewhere (fromAt mv j) (eqb-false (fromAt mv j) from v) in
+          let high : m ≤ getD ls (motionRows + fromAt mv j) 0 = g .starts (fromAt mv j) (froms j hi) in
           subst (λ (x : ℕ). Chain ls₂ k x j) (sym start) (chain-kept ls ls₂ k i few same (omega arith) was)));
     }
 
 pub listing-all : (k : ℕ) (mv ls : List ℕ) (m : ℕ) → m ≤ 0 → Listing k mv ls m → Listed k mv ls
 listing-all k mv ls m none g j h = g .on j (omega arith) h
 
-pub listed-from : (k : ℕ) (mv ls : List ℕ) (s : ℕ) → Listed k mv ls → (m : ℕ) → m < k → fromAt mv m ≡ s → Chain ls k (getD ls (2000 + s) 0) m
-listed-from k mv ls s all m h e = subst (λ (x : ℕ). Chain ls k (getD ls (2000 + x) 0) m) e (all m h)
+pub listed-from : (k : ℕ) (mv ls : List ℕ) (s : ℕ) → Listed k mv ls → (m : ℕ) → m < k → fromAt mv m ≡ s → Chain ls k (getD ls (motionRows + s) 0) m
+listed-from k mv ls s all m h e = subst (λ (x : ℕ). Chain ls k (getD ls (motionRows + x) 0) m) e (all m h)

@@ -15,6 +15,7 @@ use Rattle.meaning.proofs.CallLaws.{named-start, named-tick, named-goal}
 use Rattle.meaning.specs.Plan.{node}
 use Rattle.site.specs.declared.Sizes.{Sizes}
 use Rattle.site.specs.declared.Trip.{Trip}
+use Rattle.search_sizes.specs.Sizes.{motionNumbers, stateNumbers}
 use Rattle.search_ticks.specs.Rows.{rowsFree}
 use Rattle.search_site.specs.Arrays.{cellAt, States, Motions}
 use Rattle.search_step.specs.Sets.{Closed, Explored}
@@ -99,10 +100,10 @@ module _ (file board : List ℕ) (l : Sizes) (trip : Trip) (q : Asked file l (le
 
   -- ---- what the parts leave
 
-  pub states-in : (st : List ℕ) → StatesDecoded file st → 512 ≤ length st → States (l .states) st
+  pub states-in : (st : List ℕ) → StatesDecoded file st → stateNumbers ≤ length st → States (l .states) st
   states-in st held = states-fit file (q .ready .read) st held (l .states) same-states
 
-  pub motions-in : (mv : List ℕ) → MotionsDecoded file mv → 10000 ≤ length mv → Motions (l .motions) mv
+  pub motions-in : (mv : List ℕ) → MotionsDecoded file mv → motionNumbers ≤ length mv → Motions (l .motions) mv
   motions-in mv held = motions-fit file (q .ready .read) mv held (l .motions) same-motions
 
   pub sweeps-in : (mv : List ℕ) → MotionsDecoded file mv → Sweeps (l .motions) mv file

@@ -15,6 +15,7 @@ use Rattle.meaning.specs.Site.{Sweep}
 use Rattle.meaning.specs.Board.{Free}
 use Rattle.meaning.specs.Plan.{freeFromTo, sweepsFree}
 use Rattle.meaning.proofs.BasicsLaws.{decide}
+use Rattle.search_sizes.specs.Sizes.{rowTicks}
 use Rattle.search_ticks.specs.Bits.{bit}
 use Rattle.search_ticks.specs.Rows.{has, Changed, rowsFree}
 use Rattle.search_ticks.proofs.BitLaws.{odd-of}
@@ -29,8 +30,8 @@ use Rattle.search_site.specs.Arrays.{placeAt, countAt}
 -- ---- the sweeps of one motion: what is left to test, with the row as it is, is the whole test of the row as it was
 
 pub record Narrowing (sw : List ℕ) (f : Free) (l₀ l : List ℕ) (m p n i : ℕ) : Type 0 where
-  pub left : (t : ℕ) → t < 1024 → (has l m t && sweepsFree f (sweepsAt sw (p + 3 * i) (n - i)) t) ≡ (has l₀ m t && sweepsFree f (sweepsAt sw p n) t)
-  pub others : (x t : ℕ) → (x ≡ m → ⊥) → t < 1024 → has l x t ≡ has l₀ x t
+  pub left : (t : ℕ) → t < rowTicks → (has l m t && sweepsFree f (sweepsAt sw (p + 3 * i) (n - i)) t) ≡ (has l₀ m t && sweepsFree f (sweepsAt sw p n) t)
+  pub others : (x t : ℕ) → (x ≡ m → ⊥) → t < rowTicks → has l x t ≡ has l₀ x t
   pub sized : length l ≡ length l₀
 
 pub narrowing-start : (sw : List ℕ) (f : Free) (l : List ℕ) (m p n : ℕ) → Narrowing sw f l l m p n 0
@@ -81,10 +82,10 @@ narrowing-end sw f l₀ l m p n i most g =
 
 -- the rows below m are done, and the others are full
 pub record Allowing (mv sw fr l : List ℕ) (k m : ℕ) : Type 0 where
-  pub done : (x t : ℕ) → x < m → t < 1024 → has l x t ≡ sweepsFree (rowsFree fr) (sweepsOf mv sw x) t
-  pub full : (x t : ℕ) → m ≤ x → x < k → t < 1024 → has l x t ≡ true
+  pub done : (x t : ℕ) → x < m → t < rowTicks → has l x t ≡ sweepsFree (rowsFree fr) (sweepsOf mv sw x) t
+  pub full : (x t : ℕ) → m ≤ x → x < k → t < rowTicks → has l x t ≡ true
 
-pub allowing-start : (mv sw fr l : List ℕ) (k : ℕ) → ((x t : ℕ) → x < k → t < 1024 → has l x t ≡ true) → Allowing mv sw fr l k 0
+pub allowing-start : (mv sw fr l : List ℕ) (k : ℕ) → ((x t : ℕ) → x < k → t < rowTicks → has l x t ≡ true) → Allowing mv sw fr l k 0
 allowing-start mv sw fr l k full = record { done = λ x t h. absurd (omega arith); full = λ x t lo. full x t }
 
 pub allowing-turn : (mv sw fr l l′ : List ℕ) (k m p n : ℕ) → m < k → p ≡ placeAt mv m → n ≡ countAt mv m
@@ -114,7 +115,7 @@ ones-bit (suc n) (suc i) h =
     let e : (2 ^ suc n - 1) / 2 ≡ 2 ^ n - 1 = omega (arith, pow-suc 2 n, pow-pos n) in
     rw e (ones-bit n i (omega arith))
 
-pub ones-full : (n x t : ℕ) → x * 16 + 16 ≤ n → t < 1024 → has (replicate n 18446744073709551615) x t ≡ true
+pub ones-full : (n x t : ℕ) → x * 16 + 16 ≤ n → t < rowTicks → has (replicate n 18446744073709551615) x t ≡ true
 ones-full n x t room h =
     has-is (replicate n 18446744073709551615) x t
     ∙ ap (λ (w : ℕ). bit w (t % 64)) (getD-replicate {A = ℕ} n (x * 16 + t / 64) 18446744073709551615 0 (omega arith))

@@ -19,6 +19,7 @@ use Rattle.meaning.proofs.BasicsLaws.{decide, and-left, and-right, every-at, ev
 use Rattle.meaning.proofs.ReachLaws.{span-pos, move-known, move-ends, wait-ends, Came, at-start, by-wait, by-move, came-here, reached-start, reached-state, reached-wait, reached-move}
 use Rattle.meaning.proofs.TraceLaws.{reached-pair}
 use Rattle.meaning.proofs.MotionLaws.{good-at}
+use Rattle.search_sizes.specs.Sizes.{rowTicks}
 use Rattle.search_ticks.specs.Rows.{has, rowsFree}
 use Rattle.search_site.specs.Decoded.{Decoded}
 use Rattle.search_reach.specs.Reached.{Starts, reachedAt}
@@ -80,9 +81,9 @@ module _ (site : Site) (well : WellFormed site) (board : List ℕ) (n k : ℕ) (
   abbrev R : Pairs
   R = reachedAt site f a
 
-  pub has-free : (c t : ℕ) → t < 1024 → has fr c t ≡ f c t
+  pub has-free : (c t : ℕ) → t < rowTicks → has fr c t ≡ f c t
   unfolding rowsFree
-  has-free c t h = let is : (ltb t 1024 && has fr c t) ≡ f c t = frees c t in simp (lt-ltb t 1024 h) at is
+  has-free c t h = let is : (ltb t rowTicks && has fr c t) ≡ f c t = frees c t in simp (lt-ltb t rowTicks h) at is
 
   in-time : (c t : ℕ) → f c t ≡ true → t ≤ site .horizon
   unfolding free
@@ -94,7 +95,7 @@ module _ (site : Site) (well : WellFormed site) (board : List ℕ) (n k : ℕ) (
   same-free : rowsFree fr ≡ f
   same-free = λ i c t. frees c t i
 
-  pub may-start : (m t : ℕ) → m < k → t < 1024 → has al m t ≡ sweepsFree f (motionAt site m .sweeps) t
+  pub may-start : (m t : ℕ) → m < k → t < rowTicks → has al m t ≡ sweepsFree f (motionAt site m .sweeps) t
   may-start m t h lt = starts m t h lt ∙ rw (same-free, dec .sweeps m h)
 
   -- a pair of the set, by the ticks since the start
@@ -182,7 +183,7 @@ module _ (site : Site) (well : WellFormed site) (board : List ℕ) (n k : ℕ) (
       every-cons _ _ (lt-ltb start (length (site .states)) (omega (arith, dec .states)))
       (every-cons _ _ (le-leb tick (site .horizon) early) (every-cons _ _ now every-nil))
 
-  pub explored-right : Explored (Closed n k st mv fr al) fr (cellAt st start) start tick l → (s t : ℕ) → t < 1024 → has l s t ≡ R s t
+  pub explored-right : Explored (Closed n k st mv fr al) fr (cellAt st start) start tick l → (s t : ℕ) → t < rowTicks → has l s t ≡ R s t
   explored-right e s t h =
       decide (has fr (cellAt st start) tick)
       (λ b.

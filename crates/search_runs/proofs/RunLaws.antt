@@ -15,6 +15,7 @@ use borrow.Author.Tests.{ltb-true, ltb-false, lt-ltb, le-ltb, eqb-true, eqb-fals
 use Rattle.meaning.specs.Basics.{allFrom}
 use Rattle.meaning.specs.Plan.{freeFromTo}
 use Rattle.meaning.proofs.BasicsLaws.{decide, and-left, and-right, same-test, allFrom-in, allFrom-true}
+use Rattle.search_sizes.specs.Sizes.{rowTicks}
 use Rattle.search_ticks.specs.Bits.{bit, windowOf}
 use Rattle.search_ticks.specs.Rows.{at, has, Words, Changed, rowsFree}
 use Rattle.search_runs.specs.Runs.{narrowed, twice, Blank, Placed, runOf, Runs}
@@ -39,15 +40,15 @@ join p t a k b few most =
     (allFrom-true p t a (λ x lo hi. allFrom-in p t (k + b) x h lo (omega arith)))
     (allFrom-true p (t + k) b (λ x lo hi. allFrom-in p t (k + b) x h (omega arith) (omega arith))))
 
-free-below : (f : List ℕ) (c t : ℕ) → t < 1024 → rowsFree f c t ≡ has f c t
+free-below : (f : List ℕ) (c t : ℕ) → t < rowTicks → rowsFree f c t ≡ has f c t
 unfolding rowsFree
-free-below f c t h = rw (lt-ltb t 1024 h)
+free-below f c t h = rw (lt-ltb t rowTicks h)
 
-free-above : (f : List ℕ) (c t : ℕ) → 1024 ≤ t → rowsFree f c t ≡ false
+free-above : (f : List ℕ) (c t : ℕ) → rowTicks ≤ t → rowsFree f c t ≡ false
 unfolding rowsFree
-free-above f c t h = rw (le-ltb t 1024 h)
+free-above f c t h = rw (le-ltb t rowTicks h)
 
-no-run : (f : List ℕ) (c t n : ℕ) → 1 ≤ n → 1024 ≤ t → allFrom (rowsFree f c) t n ≡ false
+no-run : (f : List ℕ) (c t n : ℕ) → 1 ≤ n → rowTicks ≤ t → allFrom (rowsFree f c) t n ≡ false
 no-run f c t zero pos h = absurd (omega arith)
 no-run f c t (suc n) pos h = rw (free-above f c t h)
 
@@ -73,7 +74,7 @@ placing-turn g a x₀ x i v h e fit p =
     }
 
 placing-done : (g : ℕ → ℕ → ℕ) (x y : List ℕ) (r i : ℕ) (test : ℕ → Bool) → r * 20 + 16 ≤ length x → 16 ≤ i → i ≤ 16 → Placing g (r * 20) x y i
-    → ((t : ℕ) → t < 1024 → bit (g (t / 64) (getD x (r * 20 + t / 64) 0)) (t % 64) ≡ test t) → Placed x y r test
+    → ((t : ℕ) → t < rowTicks → bit (g (t / 64) (getD x (r * 20 + t / 64) 0)) (t % 64) ≡ test t) → Placed x y r test
 placing-done g x y r i test room past few p h =
     let e : y ≡ mapRow g (r * 20) 16 0 x = map-end g (r * 20) i y (mapRow g (r * 20) 16 0 x) past few (p .left) in
     record {
@@ -156,10 +157,10 @@ runs-next f x y n g p =
           decide (eqb r n)
           (λ u.
           let same : r ≡ n = eqb-true r n u in
-          rw same (decide (ltb t 1024)
-          (λ e. p .here t (ltb-true t 1024 e))
+          rw same (decide (ltb t rowTicks)
+          (λ e. p .here t (ltb-true t rowTicks e))
           (λ e.
-          let late : 1024 ≤ t = ltb-false t 1024 e in
+          let late : rowTicks ≤ t = ltb-false t rowTicks e in
           p .after (n * 1280 + t) (omega arith) ∙ g .left n t (omega arith) lt ∙ sym (no-run f (n % 256) t (2 ^ (n / 256)) (pow-pos (n / 256)) late))))
           (λ u. let other : r ≡ n → ⊥ = eqb-false r n u in p .before (r * 1280 + t) (omega arith) ∙ g .done r t (omega arith) lt);
       left = λ r t h lt. p .after (r * 1280 + t) (omega arith) ∙ g .left r t (omega arith) lt;
@@ -167,7 +168,7 @@ runs-next f x y n g p =
       sized = p .sized ∙ g .sized;
     }
 
-placed-as : (x y : List ℕ) (r : ℕ) (a b : ℕ → Bool) → ((t : ℕ) → t < 1024 → a t ≡ b t) → Placed x y r a → Placed x y r b
+placed-as : (x y : List ℕ) (r : ℕ) (a b : ℕ → Bool) → ((t : ℕ) → t < rowTicks → a t ≡ b t) → Placed x y r a → Placed x y r b
 placed-as x y r a b same p =
     record { here = λ t h. p .here t h ∙ same t h; before = p .before; after = p .after; fits = p .fits; sized = p .sized }
 
@@ -178,7 +179,7 @@ runs-single f x y c small g p =
     runs-next f x y c g
     (placed-as x y c (has f c) (runOf f c) (λ t h. rw (cell, level) (sym (free-below f c t h) ∙ sym (and-true (rowsFree f c t)))) p)
 
-pub runs-double : (f x y : List ℕ) (r k : ℕ) → r < 1024 → k ≡ 2 ^ (r / 256) → k ≤ 16 → Runs f x (r + 256) → Placed x y (r + 256) (twice x r k) → Runs f y (r + 1 + 256)
+pub runs-double : (f x y : List ℕ) (r k : ℕ) → r < rowTicks → k ≡ 2 ^ (r / 256) → k ≤ 16 → Runs f x (r + 256) → Placed x y (r + 256) (twice x r k) → Runs f y (r + 1 + 256)
 runs-double f x y r k small size most g p =
     let cell : (r + 256) % 256 ≡ r % 256 = omega arith in
     let level : (r + 256) / 256 ≡ suc (r / 256) = omega arith in

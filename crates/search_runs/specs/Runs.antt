@@ -27,7 +27,7 @@ pub record Blank (n : ℕ) (x : List ℕ) : Type 0 where
 pub record Placed (x y : List ℕ) (r : ℕ) (test : ℕ → Bool) : Type 0 where
   pub here : (t : ℕ) → t < rowTicks → at y (r * 1280 + t) ≡ test t
   pub before : (j : ℕ) → j < r * 1280 → at y j ≡ at x j
-  pub after : (j : ℕ) → r * 1280 + 1024 ≤ j → at y j ≡ at x j
+  pub after : (j : ℕ) → r * 1280 + rowTicks ≤ j → at y j ≡ at x j
   pub fits : Words y
   pub sized : length y ≡ length x
 

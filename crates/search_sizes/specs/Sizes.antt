@@ -19,12 +19,19 @@ stateRows = 256
 abbrev pub motionRows : ℕ
 motionRows = 2000
 
--- words of the free ticks, and of the reached pairs
+-- the last state's row
+abbrev pub lastState : ℕ
+lastState = 255
+
+-- words of the free ticks, of the reached pairs, and of the allowed starts
 abbrev pub freeWords : ℕ
 freeWords = 4096
 
 abbrev pub reachedWords : ℕ
 reachedWords = 4096
+
+abbrev pub allowedWords : ℕ
+allowedWords = 32000
 
 -- numbers of the states, two each, and of the motions, five each
 abbrev pub stateNumbers : ℕ

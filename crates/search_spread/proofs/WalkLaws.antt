@@ -11,6 +11,7 @@ use lib.ListN.{length, getD, set}
 use lib.Seq.{getD-set-same, getD-set-other}
 use borrow.Author.Tests.{eqb-true, eqb-false}
 use Rattle.meaning.proofs.BasicsLaws.{decide}
+use Rattle.search_sizes.specs.Sizes.{motionRows, rowTicks, stateRows}
 use Rattle.search_ticks.specs.Rows.{has}
 use Rattle.search_site.specs.Arrays.{fromAt, toAt, spanAt}
 use Rattle.search_step.specs.Sets.{WaitClosed, MoveClosed, Inside, Step, Moved}
@@ -22,18 +23,18 @@ use Rattle.search_spread.specs.Spread.{MovesClosed, Tried, Noted}
 -- ---- what stays closed
 
 module _ (n k : ℕ) (st mv fr al : List ℕ) where
-  move-kept : (m : ℕ) (l l′ : List ℕ) → Inside l (has l′) → ((t : ℕ) → t < 1024 → has l′ (fromAt mv m) t ≡ has l (fromAt mv m) t) → MoveClosed mv al m (has l) → MoveClosed mv al m (has l′)
+  move-kept : (m : ℕ) (l l′ : List ℕ) → Inside l (has l′) → ((t : ℕ) → t < rowTicks → has l′ (fromAt mv m) t ≡ has l (fromAt mv m) t) → MoveClosed mv al m (has l) → MoveClosed mv al m (has l′)
   move-kept m l l′ kept same c t h e may = kept (toAt mv m) (t + spanAt mv m) h (c t h (sym (same t (omega arith)) ∙ e) may)
 
-  moves-kept : (s : ℕ) (l l′ : List ℕ) → Inside l (has l′) → ((t : ℕ) → t < 1024 → has l′ s t ≡ has l s t) → MovesClosed k mv al s (has l) → MovesClosed k mv al s (has l′)
+  moves-kept : (s : ℕ) (l l′ : List ℕ) → Inside l (has l′) → ((t : ℕ) → t < rowTicks → has l′ s t ≡ has l s t) → MovesClosed k mv al s (has l) → MovesClosed k mv al s (has l′)
   moves-kept s l l′ kept same c m h e =
       move-kept m l l′ kept (λ t lt. ap (λ (x : ℕ). has l′ x t) e ∙ same t lt ∙ sym (ap (λ (x : ℕ). has l x t) e)) (c m h e)
 
-  waits-kept : (s : ℕ) (l l′ : List ℕ) → ((t : ℕ) → t < 1024 → has l′ s t ≡ has l s t) → WaitClosed st fr s (has l) → WaitClosed st fr s (has l′)
+  waits-kept : (s : ℕ) (l l′ : List ℕ) → ((t : ℕ) → t < rowTicks → has l′ s t ≡ has l s t) → WaitClosed st fr s (has l) → WaitClosed st fr s (has l′)
   waits-kept s l l′ same c still t h e now soon = same (suc t) h ∙ c still t h (sym (same t (omega arith)) ∙ e) now soon
 
   -- a row without ticks
-  pub tried-empty : (g l : List ℕ) (s : ℕ) → length g ≡ 256 → ((t : ℕ) → t < 1024 → has l s t ≡ false) → Tried n k st mv fr al g (has l)
+  pub tried-empty : (g l : List ℕ) (s : ℕ) → length g ≡ stateRows → ((t : ℕ) → t < rowTicks → has l s t ≡ false) → Tried n k st mv fr al g (has l)
       → Tried n k st mv fr al (set g s 0) (has l)
   tried-empty g l s size none c x h e =
       decide (eqb x s)
@@ -46,7 +47,7 @@ module _ (n k : ℕ) (st mv fr al : List ℕ) where
 
   -- the waits and the motions of a state
   pub tried-state : (g l l₁ l₂ g₂ : List ℕ) (s : ℕ) → Inside l (has l₁) → Inside l₁ (has l₂)
-      → (s < n → WaitClosed st fr s (has l₁)) → ((x t : ℕ) → (x ≡ s → ⊥) → t < 1024 → has l₁ x t ≡ has l x t)
+      → (s < n → WaitClosed st fr s (has l₁)) → ((x t : ℕ) → (x ≡ s → ⊥) → t < rowTicks → has l₁ x t ≡ has l x t)
       → Noted l₁ (set g s 0) l₂ g₂ → (getD g₂ s 0 ≡ 0 → MovesClosed k mv al s (has l₂))
       → Tried n k st mv fr al g (has l) → Tried n k st mv fr al g₂ (has l₂)
   tried-state g l l₁ l₂ g₂ s kept₁ kept₂ waits others noted moves c x h e =
@@ -60,7 +61,7 @@ module _ (n k : ℕ) (st mv fr al : List ℕ) where
       (λ u.
       let ne : x ≡ s → ⊥ = eqb-false x s u in
       let before = c x h (sym (getD-set-other g s x 0 0 ne) ∙ was) in
-      let row : (t : ℕ) → t < 1024 → has l₂ x t ≡ has l x t = λ t lt. same t lt ∙ others x t ne lt in
+      let row : (t : ℕ) → t < rowTicks → has l₂ x t ≡ has l x t = λ t lt. same t lt ∙ others x t ne lt in
       (λ lt. waits-kept x l l₂ row (before .0 lt), moves-kept x l l₂ (λ y t lt i. kept₂ y t lt (kept₁ y t lt i)) row (before .1)))
 
 -- ---- the motions of one list
@@ -76,12 +77,12 @@ noted-start l g s h e = (e, λ t lt. refl)
 module _ (k : ℕ) (mv al ls : List ℕ) (s : ℕ) where
   -- the motions of the list of s, of which a is the next
   abbrev pub Walked : List ℕ → List ℕ → ℕ → Type 0
-  Walked l g a = (m : ℕ) → Chain ls k (getD ls (2000 + s) 0) m → fromAt mv m ≡ s → Either (getD g s 0 ≡ 0 → MoveClosed mv al m (has l)) (Chain ls k a m)
+  Walked l g a = (m : ℕ) → Chain ls k (getD ls (motionRows + s) 0) m → fromAt mv m ≡ s → Either (getD g s 0 ≡ 0 → MoveClosed mv al m (has l)) (Chain ls k a m)
 
-  pub walked-start : (l g : List ℕ) (a : ℕ) → a ≡ getD ls (2000 + s) 0 → Walked l g a
+  pub walked-start : (l g : List ℕ) (a : ℕ) → a ≡ getD ls (motionRows + s) 0 → Walked l g a
   walked-start l g a e m c from = later (subst (λ (x : ℕ). Chain ls k x m) (sym e) c)
 
-  module _ (l l′ g : List ℕ) (a d to : ℕ) (size : length g ≡ 256) (is-to : to ≡ toAt mv a) (small : to < 256)
+  module _ (l l′ g : List ℕ) (a d to : ℕ) (size : length g ≡ stateRows) (is-to : to ≡ toAt mv a) (small : to < stateRows)
       (step : Step (MoveClosed mv al a) l l′ d) (moved : Moved mv al a l l′) where
     abbrev g′ : List ℕ
     g′ = set g to (bitOr (getD g to 0) d)
@@ -104,7 +105,7 @@ module _ (k : ℕ) (mv al ls : List ℕ) (s : ℕ) where
         (first, λ t lt. same t lt ∙ row t lt)
 
     -- the motion a itself
-    closed-here : s < 256 → fromAt mv a ≡ s → getD g′ s 0 ≡ 0 → MoveClosed mv al a (has l′)
+    closed-here : s < stateRows → fromAt mv a ≡ s → getD g′ s 0 ≡ 0 → MoveClosed mv al a (has l′)
     closed-here h from e =
         decide (eqb s to)
         (λ u.
@@ -113,12 +114,12 @@ module _ (k : ℕ) (mv al ls : List ℕ) (s : ℕ) where
         step .closed (z .1))
         (λ u. moved .closed (λ same. eqb-false s to u (sym from ∙ same ∙ sym is-to)))
 
-    closed-still : (m : ℕ) → s < 256 → fromAt mv m ≡ s → (getD g s 0 ≡ 0 → MoveClosed mv al m (has l)) → getD g′ s 0 ≡ 0 → MoveClosed mv al m (has l′)
+    closed-still : (m : ℕ) → s < stateRows → fromAt mv m ≡ s → (getD g s 0 ≡ 0 → MoveClosed mv al m (has l)) → getD g′ s 0 ≡ 0 → MoveClosed mv al m (has l′)
     closed-still m h from c e =
         let (was, same) = noted-one s h e in
         move-kept 0 k mv mv al al m l l′ (step .kept) (λ t lt. ap (λ (x : ℕ). has l′ x t) from ∙ same t lt ∙ sym (ap (λ (x : ℕ). has l x t) from)) (c was)
 
-    pub walked-more : (after : ℕ) → s < 256 → after ≡ getD ls a 0 → Walked l g a → Walked l′ g′ after
+    pub walked-more : (after : ℕ) → s < stateRows → after ≡ getD ls a 0 → Walked l g a → Walked l′ g′ after
     walked-more after h e w m c from = go (w m c from)
       where
         go : Either (getD g s 0 ≡ 0 → MoveClosed mv al m (has l)) (Chain ls k a m) → Either (getD g′ s 0 ≡ 0 → MoveClosed mv al m (has l′)) (Chain ls k after m)
@@ -129,7 +130,7 @@ module _ (k : ℕ) (mv al ls : List ℕ) (s : ℕ) where
             (λ lt up rest. later (subst (λ (y : ℕ). Chain ls k y m) (sym e) rest))
 
     -- nothing stands behind a
-    pub walked-last : s < 256 → getD ls a 0 ≤ a → Walked l g a → (m : ℕ) → Chain ls k (getD ls (2000 + s) 0) m → fromAt mv m ≡ s → getD g′ s 0 ≡ 0 → MoveClosed mv al m (has l′)
+    pub walked-last : s < stateRows → getD ls a 0 ≤ a → Walked l g a → (m : ℕ) → Chain ls k (getD ls (motionRows + s) 0) m → fromAt mv m ≡ s → getD g′ s 0 ≡ 0 → MoveClosed mv al m (has l′)
     walked-last h low w m c from = go (w m c from)
       where
         go : Either (getD g s 0 ≡ 0 → MoveClosed mv al m (has l)) (Chain ls k a m) → getD g′ s 0 ≡ 0 → MoveClosed mv al m (has l′)
@@ -140,7 +141,7 @@ module _ (k : ℕ) (mv al ls : List ℕ) (s : ℕ) where
             (λ lt up rest. absurd (omega arith))
 
   -- the list is at its end
-  pub walked-end : (l g : List ℕ) (a : ℕ) → k ≤ a → Walked l g a → (m : ℕ) → Chain ls k (getD ls (2000 + s) 0) m → fromAt mv m ≡ s → getD g s 0 ≡ 0 → MoveClosed mv al m (has l)
+  pub walked-end : (l g : List ℕ) (a : ℕ) → k ≤ a → Walked l g a → (m : ℕ) → Chain ls k (getD ls (motionRows + s) 0) m → fromAt mv m ≡ s → getD g s 0 ≡ 0 → MoveClosed mv al m (has l)
   walked-end l g a past w m c from = go (w m c from)
     where
       go : Either (getD g s 0 ≡ 0 → MoveClosed mv al m (has l)) (Chain ls k a m) → getD g s 0 ≡ 0 → MoveClosed mv al m (has l)

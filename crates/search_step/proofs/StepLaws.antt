@@ -9,6 +9,7 @@ use lib.Dec.{ltb, eqb}
 use lib.ListN.{replicate}
 use borrow.Author.Tests.{ltb-true, ltb-false, eqb-true, eqb-false, eq-eqb}
 use Rattle.meaning.proofs.BasicsLaws.{decide, and-left, and-right}
+use Rattle.search_sizes.specs.Sizes.{rowTicks}
 use Rattle.search_ticks.specs.Rows.{at, has, Grown, Changed, Met, pushed, waited, filled, seeded}
 use Rattle.search_ticks.proofs.RowLaws.{empty-row, grown-start}
 use Rattle.search_site.specs.Arrays.{cellAt, speedAt, fromAt, toAt, spanAt}
@@ -33,12 +34,12 @@ or-right false b e = e
 module _ (mv al l l′ x : List ℕ) (m d from to span : ℕ)
     (is-from : from ≡ fromAt mv m) (is-to : to ≡ toAt mv m) (is-span : span ≡ spanAt mv m) (early : span ≤ 255)
     (met : Met l al from m x) (changed : Changed l l′ to (pushed l x to span)) (grown : Grown l l′ d) where
-  move-late : (t : ℕ) → t + span < 1024 → has l′ to (t + span) ≡ (has l to (t + span) || (has l from t && has al m t))
+  move-late : (t : ℕ) → t + span < rowTicks → has l′ to (t + span) ≡ (has l to (t + span) || (has l from t && has al m t))
   move-late t h =
       let place : 256 - span + (t + span) ≡ 256 + t = omega arith in
       changed .here (t + span) h ∙ ap (λ (b : Bool). has l to (t + span) || b) (ap (at x) place ∙ met .late t (omega arith))
 
-  move-early : (t : ℕ) → t < 1024 → t < span → has l′ to t ≡ true → has l to t ≡ true
+  move-early : (t : ℕ) → t < rowTicks → t < span → has l′ to t ≡ true → has l to t ≡ true
   move-early t h lt e =
       either (has l to t) (at x (256 - span + t)) (sym (changed .here t h) ∙ e)
       (λ u. u)
@@ -53,7 +54,7 @@ module _ (mv al l l′ x : List ℕ) (m d from to span : ℕ)
       (λ u. changed .others s t (eqb-false s to u) h ∙ e)
 
   abbrev Closed-here : Pairs → Type 0
-  Closed-here R = (t : ℕ) → t + span < 1024 → R from t ≡ true → has al m t ≡ true → R to (t + span) ≡ true
+  Closed-here R = (t : ℕ) → t + span < rowTicks → R from t ≡ true → has al m t ≡ true → R to (t + span) ≡ true
 
   move-within : (R : Pairs) → Closed-here R → Inside l R → Inside l′ R
   move-within R c i s t h e =
@@ -126,9 +127,9 @@ module _ (st fr l l′ : List ℕ) (s d c : ℕ) (is-cell : c ≡ cellAt st s) (
   run-next t p e = rw p (or-right (has l s (suc t)) (run t) e)
 
   abbrev Waits : Pairs → Type 0
-  Waits R = (t : ℕ) → suc t < 1024 → R s t ≡ true → has fr c t ≡ true → has fr c (suc t) ≡ true → R s (suc t) ≡ true
+  Waits R = (t : ℕ) → suc t < rowTicks → R s t ≡ true → has fr c t ≡ true → has fr c (suc t) ≡ true → R s (suc t) ≡ true
 
-  run-within : (R : Pairs) → Waits R → Inside l R → (t : ℕ) → t < 1024 → run t ≡ true → R s t ≡ true
+  run-within : (R : Pairs) → Waits R → Inside l R → (t : ℕ) → t < rowTicks → run t ≡ true → R s t ≡ true
   unfolding waited
   run-within R w i zero h e = i s 0 h (and-right (has fr c 0) (has l s 0) e)
   run-within R w i (suc t) h e =
@@ -187,7 +188,7 @@ moving-step st fr l s ne =
 
 -- ---- from the start
 
-pub explored-found : (C : Pairs → Type 0) (fr l₁ l : List ℕ) (c s t : ℕ) → t < 1024 → has fr c t ≡ true
+pub explored-found : (C : Pairs → Type 0) (fr l₁ l : List ℕ) (c s t : ℕ) → t < rowTicks → has fr c t ≡ true
     → Changed (replicate 4096 0) l₁ s (seeded (replicate 4096 0) s t) → Settled C l₁ l → Explored C fr c s t l
 explored-found C fr l₁ l c s t h free seed done =
     record {

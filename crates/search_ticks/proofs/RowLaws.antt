@@ -13,6 +13,7 @@ use lib.ListN.{length, getD, set, replicate, length-set, length-replicate, getD-
 use lib.Seq.{getD-set-same, getD-set-other, set-getD}
 use borrow.Author.Tests.{ltb-true, ltb-false, eqb-true, eqb-false}
 use Rattle.meaning.proofs.BasicsLaws.{decide}
+use Rattle.search_sizes.specs.Sizes.{rowTicks}
 use Rattle.search_ticks.specs.Bits.{bit, windowOf}
 use Rattle.search_ticks.specs.Rows.{at, has, Words, total, Grown}
 use Rattle.search_ticks.proofs.BitLaws.{or-zero, bit-past, window-low, window-high}
@@ -84,7 +85,7 @@ module _ (g : ℕ → ℕ → ℕ) (b : ℕ) where
       shut (suc k) n z = absurd (omega arith)
 
   -- the bits of a changed row, and of the others
-  pub map-bit : (l : List ℕ) (j : ℕ) → b + 16 ≤ length l → b * 64 ≤ j → j < b * 64 + 1024 → at (mapRow g b 16 0 l) j ≡ bit (g (j / 64 - b) (getD l (j / 64) 0)) (j % 64)
+  pub map-bit : (l : List ℕ) (j : ℕ) → b + 16 ≤ length l → b * 64 ≤ j → j < b * 64 + rowTicks → at (mapRow g b 16 0 l) j ≡ bit (g (j / 64 - b) (getD l (j / 64) 0)) (j % 64)
   unfolding at
   map-bit l j n a h =
       let e : j / 64 ≡ b + (j / 64 - b) = omega arith in
@@ -97,7 +98,7 @@ module _ (g : ℕ → ℕ → ℕ) (b : ℕ) where
   unfolding at
   map-bit-before l j h = ap (λ (x : ℕ). bit x (j % 64)) (map-before 16 0 l (j / 64) (omega arith))
 
-  pub map-bit-after : (l : List ℕ) (j : ℕ) → b * 64 + 1024 ≤ j → at (mapRow g b 16 0 l) j ≡ at l j
+  pub map-bit-after : (l : List ℕ) (j : ℕ) → b * 64 + rowTicks ≤ j → at (mapRow g b 16 0 l) j ≡ at l j
   unfolding at
   map-bit-after l j h = ap (λ (x : ℕ). bit x (j % 64)) (map-after 16 0 l (j / 64) (omega arith))
 
@@ -161,26 +162,26 @@ window-at l w r i fit a h = decide (ltb (r + i) 64)
 
 module _ (g : ℕ → ℕ → ℕ) (l : List ℕ) (b : ℕ) where
   -- the other rows stay
-  pub other-row : (s t : ℕ) → (s ≡ b → ⊥) → t < 1024 → has (mapRow g (b * 16) 16 0 l) s t ≡ has l s t
+  pub other-row : (s t : ℕ) → (s ≡ b → ⊥) → t < rowTicks → has (mapRow g (b * 16) 16 0 l) s t ≡ has l s t
   unfolding has
   other-row s t ne h = decide (ltb s b)
-      (λ e. let lt = ltb-true s b e in map-bit-before g (b * 16) l (s * 1024 + t) (omega arith))
-      (λ e. let ge = ltb-false s b e in map-bit-after g (b * 16) l (s * 1024 + t) (omega arith))
+      (λ e. let lt = ltb-true s b e in map-bit-before g (b * 16) l (s * rowTicks + t) (omega arith))
+      (λ e. let ge = ltb-false s b e in map-bit-after g (b * 16) l (s * rowTicks + t) (omega arith))
 
   -- the row itself
-  pub this-row : (t : ℕ) → t < 1024 → b * 16 + 16 ≤ length l → has (mapRow g (b * 16) 16 0 l) b t ≡ bit (g (t / 64) (getD l (b * 16 + t / 64) 0)) (t % 64)
+  pub this-row : (t : ℕ) → t < rowTicks → b * 16 + 16 ≤ length l → has (mapRow g (b * 16) 16 0 l) b t ≡ bit (g (t / 64) (getD l (b * 16 + t / 64) 0)) (t % 64)
   unfolding has
   this-row t h n =
-      let i : (b * 1024 + t) / 64 - b * 16 ≡ t / 64 = omega arith in
-      let j : (b * 1024 + t) / 64 ≡ b * 16 + t / 64 = omega arith in
-      let k : (b * 1024 + t) % 64 ≡ t % 64 = omega arith in
-      map-bit g (b * 16) l (b * 1024 + t) n (omega arith) (omega arith) ∙ ap₂ (λ (x y : ℕ). bit x y) (ap₂ (λ (x y : ℕ). g x (getD l y 0)) i j) k
+      let i : (b * rowTicks + t) / 64 - b * 16 ≡ t / 64 = omega arith in
+      let j : (b * rowTicks + t) / 64 ≡ b * 16 + t / 64 = omega arith in
+      let k : (b * rowTicks + t) % 64 ≡ t % 64 = omega arith in
+      map-bit g (b * 16) l (b * rowTicks + t) n (omega arith) (omega arith) ∙ ap₂ (λ (x y : ℕ). bit x y) (ap₂ (λ (x y : ℕ). g x (getD l y 0)) i j) k
 
 pub has-is : (l : List ℕ) (s t : ℕ) → has l s t ≡ bit (getD l (s * 16 + t / 64) 0) (t % 64)
 unfolding has at
 has-is l s t =
-    let j : (s * 1024 + t) / 64 ≡ s * 16 + t / 64 = omega arith in
-    let k : (s * 1024 + t) % 64 ≡ t % 64 = omega arith in
+    let j : (s * rowTicks + t) / 64 ≡ s * 16 + t / 64 = omega arith in
+    let k : (s * rowTicks + t) % 64 ≡ t % 64 = omega arith in
     ap₂ (λ (x y : ℕ). bit (getD l x 0) y) j k
 
 pub empty-row : (n s t : ℕ) → has (replicate n 0) s t ≡ false

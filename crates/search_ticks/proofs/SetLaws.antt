@@ -13,6 +13,7 @@ use lib.ListN.{length, getD, set, replicate, length-set}
 use lib.Seq.{getD-set-same, getD-set-other}
 use borrow.Author.Tests.{ltb-true, ltb-false, eqb-true, eqb-false, eq-eqb, ne-eqb}
 use Rattle.meaning.proofs.BasicsLaws.{decide}
+use Rattle.search_sizes.specs.Sizes.{rowTicks}
 use Rattle.search_ticks.specs.Bits.{odd, bit, windowOf, runOf, fillOf}
 use Rattle.search_ticks.specs.Rows.{at, has, Words, ZeroFrom, Grown, Changed, Met, pushed, waited, filled, seeded}
 use Rattle.search_ticks.proofs.BitLaws.{or-zero, bit-and, bit-or, bit-shr, bit-rem, bit-scaled, bit-scaled-low, bit-past, fill-first, fill-next}
@@ -20,7 +21,7 @@ use Rattle.search_ticks.proofs.RowLaws.{zeros-at, zero-bit, mapRow, map
 
 -- a loop that has changed row s word by word
 pub row-changed : (g : ℕ → ℕ → ℕ) (l₀ l : List ℕ) (s : ℕ) (test : ℕ → Bool) → s * 16 + 16 ≤ length l₀ → l ≡ mapRow g (s * 16) 16 0 l₀
-    → ((t : ℕ) → t < 1024 → bit (g (t / 64) (getD l₀ (s * 16 + t / 64) 0)) (t % 64) ≡ test t) → Changed l₀ l s test
+    → ((t : ℕ) → t < rowTicks → bit (g (t / 64) (getD l₀ (s * 16 + t / 64) 0)) (t % 64) ≡ test t) → Changed l₀ l s test
 row-changed g l₀ l s test room e h =
     record {
       here = λ t lt. ap (λ (k : List ℕ). has k s t) e ∙ this-row g l₀ s t lt room ∙ h t lt;
@@ -51,7 +52,7 @@ power-bit k i h =
     (λ u. let same : i - k ≡ 0 = omega (arith, eqb-true i k u) in rw (u, same))
     (λ u. rw u (bit-past 1 (i - k) 1 (omega arith) (omega (arith, ltb-false i k e, eqb-false i k u)))))
 
-pub seed-done : (l : List ℕ) (s t : ℕ) → t < 1024 → s * 16 + 16 ≤ length l
+pub seed-done : (l : List ℕ) (s t : ℕ) → t < rowTicks → s * 16 + 16 ≤ length l
     → Changed l (set l (s * 16 + t / 64) (bitOr (getD l (s * 16 + t / 64) 0) (1 * 2 ^ (t % 64) % 2 ^ 64))) s (seeded l s t)
 seed-done l s t early room =
     let place : ℕ = s * 16 + t / 64 in
@@ -99,7 +100,7 @@ zeros-more l a i all h e j lt =
     (λ u. let same : j ≡ i = eqb-true j i u in rw same (both .1))
     (λ u. let other : j ≡ i → ⊥ = eqb-false j i u in h (both .0) j (omega arith))
 
-pub zeros-row : (l : List ℕ) (s i : ℕ) → 16 ≤ i → ZeroFrom l (s * 16) i → (t : ℕ) → t < 1024 → has l s t ≡ false
+pub zeros-row : (l : List ℕ) (s i : ℕ) → 16 ≤ i → ZeroFrom l (s * 16) i → (t : ℕ) → t < rowTicks → has l s t ≡ false
 zeros-row l s i most z t h = has-is l s t ∙ ap (λ (w : ℕ). bit w (t % 64)) (z (t / 64) (omega arith)) ∙ zero-bit (t % 64)
 
 -- ---- the ticks that two rows share
@@ -213,7 +214,7 @@ module _ (l f : List ℕ) (s c : ℕ) (fit : Words f) where
   unfolding carryIn
   carry-bit n = bit-shr 63 0 _
 
-  run-is : (t : ℕ) → t < 1024 → run (t / 64) (t % 64) ≡ waited (has f c) (has l s) t
+  run-is : (t : ℕ) → t < rowTicks → run (t / 64) (t % 64) ≡ waited (has f c) (has l s) t
   unfolding waited carryIn
   run-is zero h =
       fill-first (getD f (c * 16 + 0) 0) (getD l (s * 16 + 0) 0) 0

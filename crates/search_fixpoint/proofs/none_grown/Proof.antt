@@ -4,6 +4,7 @@ use Prim.Native.Nat.{ℕ, _-_, _≤_, _<_}
 use mathlib.Core.Path.{_≡_}
 use mathlib.Core.Bool.{false≢true, true≢false}
 use lib.ListN.{getD}
+use Rattle.search_sizes.specs.Sizes.{stateRows}
 use Rattle.search_fixpoint.proofs.TurnLaws.{none-more, noted-some}
 use borrow.Author.Needs.{needs}
 use native.Mathlib.Omega.{arith}
@@ -11,10 +12,10 @@ use Rattle.search_fixpoint.proofs.none_grown.Statement.{statement}
 use Rattle.search_fixpoint.proofs.none_grown.Tie as tie
 
 abbrev Inv-loop : tie.InvT-loop
-Inv-loop grown s₀ s = (s ≤ 256) × ((x : ℕ) → x < s → getD grown x 0 ≡ 0)
+Inv-loop grown s₀ s = (s ≤ stateRows) × ((x : ℕ) → x < s → getD grown x 0 ≡ 0)
 
 abbrev μ-loop : tie.MeasureT-loop
-μ-loop grown s₀ s = 256 - s
+μ-loop grown s₀ s = stateRows - s
 
 loop-holds : tie.Need-loop-holds Inv-loop μ-loop
 loop-holds c = (omega arith, λ x h. absurd (omega arith))

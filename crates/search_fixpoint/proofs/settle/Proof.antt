@@ -3,6 +3,7 @@
 use Prim.Native.Nat.{ℕ, _<_}
 use mathlib.Core.Path.{_≡_}
 use lib.ListN.{length, length-replicate}
+use Rattle.search_sizes.specs.Sizes.{stateRows}
 use Rattle.search_ticks.specs.Rows.{has}
 use Rattle.search_step.specs.Sets.{Closed, Going}
 use Rattle.search_spread.specs.Spread.{Tried}
@@ -16,7 +17,7 @@ use Rattle.search_fixpoint.proofs.settle.Tie as tie
 abbrev Inv-loop : tie.InvT-loop
 Inv-loop states moves frees allowed reached₀ n k lists grown₀ turn₀ reached grown turn =
     Going (Closed n k states moves frees allowed) reached₀ reached
-    × (length grown ≡ 256)
+    × (length grown ≡ stateRows)
     × Tried n k states moves frees allowed grown (has reached)
     × (turn < 2)
 
@@ -29,7 +30,7 @@ lists-of-requires c κs = search needs
 loop-holds : tie.Need-loop-holds Inv-loop μ-loop
 loop-holds c =
     let a = c .before .before .before .before .before .before .args in
-    (going-start _ _, length-replicate {A = ℕ} 256 1, tried-start (a .n) (a .k) (a .states .now) (a .moves .now) (a .frees .now) (a .allowed .now) (a .reached .now), omega arith)
+    (going-start _ _, length-replicate {A = ℕ} stateRows 1, tried-start (a .n) (a .k) (a .states .now) (a .moves .now) (a .frees .now) (a .allowed .now) (a .reached .now), omega arith)
 
 none-grown-requires : tie.Need-none-grown-requires Inv-loop μ-loop
 none-grown-requires c κs = search needs

@@ -3,6 +3,7 @@
 use Prim.Native.Nat.{_-_, _≤_}
 use mathlib.Core.Path.{_≡_}
 use lib.ListN.{length}
+use Rattle.search_sizes.specs.Sizes.{stateRows}
 use Rattle.search_ticks.specs.Rows.{has}
 use Rattle.search_step.specs.Sets.{Closed, Going}
 use Rattle.search_lists.specs.Lists.{Listed}
@@ -17,14 +18,14 @@ use Rattle.search_fixpoint.proofs.spread_all.Tie as tie
 
 abbrev Inv-loop : tie.InvT-loop
 Inv-loop states moves frees allowed reached₀ lists grown₀ n k turn s₀ reached grown s =
-    (s ≤ 256)
+    (s ≤ stateRows)
     × Going (Closed n k states moves frees allowed) reached₀ reached
-    × (length grown ≡ 256)
+    × (length grown ≡ stateRows)
     × (Listed k moves lists → Tried n k states moves frees allowed grown₀ (has reached₀) → Tried n k states moves frees allowed grown (has reached))
     × Progress reached₀ reached (Quiet turn s grown)
 
 abbrev μ-loop : tie.MeasureT-loop
-μ-loop states moves frees allowed reached₀ lists grown₀ n k turn s₀ reached grown s = 256 - s
+μ-loop states moves frees allowed reached₀ lists grown₀ n k turn s₀ reached grown s = stateRows - s
 
 loop-holds : tie.Need-loop-holds Inv-loop μ-loop
 loop-holds c = (omega arith, going-start _ _, c .before .before .before .before .before .pre .0 .1 .1, λ all tried. tried, progress-none _ (λ x small early. absurd (omega arith)))

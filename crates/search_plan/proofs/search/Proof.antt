@@ -6,6 +6,7 @@ use native.Mathlib.Omega.{arith}
 use borrow.Author.Needs.{needs}
 use lib.ListN.{length}
 use Rattle.site.specs.declared.Sizes.{Sizes}
+use Rattle.search_sizes.specs.Sizes.{allowedWords}
 use Rattle.search_site.specs.Arrays.{States, Motions}
 use Rattle.search_reach.proofs.AllowLaws.{ones-full, ones-long}
 use Rattle.search_plan.proofs.PartsLaws.{Ranges, SetsOn, ranges, same-states, board-fits, states-in, motions-in, sweeps-in, sets-in, missing, found, planned}
@@ -54,7 +55,7 @@ moves-there e =
 
 starts-there : (e : tie.After-allowed3) → start e .args .sizes .motions * 16 ≤ length (starts e .allow-all .last .0)
 starts-there e =
-    rw (starts e .allow-all .kept .0) (ones-long 32000 (start e .args .sizes .motions) (omega (arith, ranges-at (start e) .motions-few)))
+    rw (starts e .allow-all .kept .0) (ones-long allowedWords (start e .args .sizes .motions) (omega (arith, ranges-at (start e) .motions-few)))
 
 sets-there : (x : tie.After-explore)
     → SetsOn (start (sets x) .args .file .now) (start (sets x) .args .board .now) (start (sets x) .args .sizes) (start (sets x) .args .trip)
@@ -98,10 +99,10 @@ allow-all-requires c κs =
     let mv = c .before .before .before .before .decode-moves in
     let board = b .args .board .now in
     let few = ranges-at b .motions-few in (
-      (ones-long 32000 (b .args .sizes .motions) (omega (arith, few)), omega (arith, c .before .before .before .free-rows .ok)),
+      (ones-long allowedWords (b .args .sizes .motions) (omega (arith, few)), omega (arith, c .before .before .before .free-rows .ok)),
       (
         (motions-in _ board _ _ (b .pre) (mv .result) (mv .ensures) (omega (arith, mv .ok)), sweeps-in _ board _ _ (b .pre) (mv .result) (mv .ensures)),
-        λ m t below early. ones-full 32000 m t (omega (arith, few)) early,
+        λ m t below early. ones-full allowedWords m t (omega (arith, few)) early,
       ),
     )
 

@@ -4,6 +4,7 @@ use Prim.Native.Nat.{_-_}
 use native.Mathlib.Omega.{arith}
 use mathlib.Core.Path.{_≡_, refl, _∙_}
 use lib.ListN.{length, length-set}
+use Rattle.search_sizes.specs.Sizes.{stateRows}
 use Rattle.search_step.specs.Sets.{MoveClosed, Below, Going}
 use Rattle.search_spread.specs.Spread.{Noted, Progress, Unnoted}
 use Rattle.search_spread.proofs.WalkLaws.{Walked, noted-start, noted-more, walked-start, walked-more, walked-last, walked-end}
@@ -16,7 +17,7 @@ use Rattle.search_spread.proofs.move_from.Tie as tie
 abbrev Inv-loop : tie.InvT-loop
 Inv-loop moves allowed reached₀ lists grown₀ k s m₀ reached grown m =
     Going (Below (MoveClosed moves allowed) k) reached₀ reached
-    × ((length grown ≡ 256) × Noted reached₀ grown₀ reached grown)
+    × ((length grown ≡ stateRows) × Noted reached₀ grown₀ reached grown)
     × Walked k moves allowed lists s reached grown m
     × Progress reached₀ reached (Unnoted grown₀ grown)
 
