@@ -1,9 +1,9 @@
 // The day program: the site from site.bin, an opened board, and a script from standard input, one line for each of its fields.
 // What a field comes to is proved in `day_turns`; here bytes are read, handed over and printed.
 use day_lines::LINE;
+use day_opening::Opening;
 use day_orders::PIECE;
 use day_results::Outcome;
-use day_turns::Opening;
 use fields::FIELD_HEADER;
 use libc::STDIN_FILENO;
 use libc::STDOUT_FILENO;
@@ -97,7 +97,7 @@ fn run_day(file: &mut [u8], area: &mut [u8], out: &mut [u8], words: &mut [u32])
     requires { ⌜ Areas (length (now out)) (length (now words)) 0 ⌝ }
 {
     let n = load(file);
-    match day_turns::start(&file[..n], area) {
+    match day_opening::start(&file[..n], area) {
         Opening::Opened(size) => {
             run_turns(&file[..n], &mut area[..size], out, words);
         }

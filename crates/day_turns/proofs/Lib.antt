@@ -1,4 +1,3 @@
 pub mod AreaLaws
 pub mod Laws
 pub mod TurnLaws
-pub mod OpeningLaws

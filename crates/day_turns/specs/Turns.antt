@@ -1,20 +1,18 @@
--- A turn of the day program: the day as the code holds it, a call on it, its line, and how the board is opened.
+-- A turn of the day program: the day as the code holds it, a call on it, and its line.
 -- Assumes nothing.
-use Prim.Native.Nat.{ℕ, zero, suc, _≤_}
+use Prim.Native.Nat.{ℕ, _≤_}
 use mathlib.Core.Path.{_≡_}
 use mathlib.Core.Bool.{Bool, true, false}
 use mathlib.Core.Option.{Option, none, some}
 use mathlib.Core.List.{List}
-use lib.ListN.{length, take}
+use lib.ListN.{take}
 use Rattle.io.specs.Counts.{Counts}
-use Rattle.meaning.specs.Limits.{header, dayArea, dayWords}
+use Rattle.meaning.specs.Limits.{dayArea, dayWords}
 use Rattle.meaning.specs.Fields.{Fields}
 use Rattle.meaning.specs.Calls.{Call}
 use Rattle.meaning.specs.Day.{Day, dayDone, arrivalOf, lineOf, dayAfter, textOf, texts, lineNext, dayNext}
 use Rattle.day_results.specs.declared.CallResult.{CallResult}
 use Rattle.day_results.specs.declared.Outcome.{Outcome}
-use Rattle.day_turns.specs.declared.Opening.{Opening}
-use Rattle.day_turns.specs.declared.Opening.the-variants.{Opened, Refused}
 
 -- ---- what a turn asks
 
@@ -57,16 +55,3 @@ pub record Turned (file : List ℕ) (fs : Fields) (d : Day) (r : Outcome) (line 
   pub counted : Counts (r .text) line
   pub text : take (r .text) line ≡ texts (lineNext file fs d)
   pub day : dayIf (r .going) after ≡ dayNext file fs d
-
--- ---- the opening
-
--- what is answered for a board of that length, by the number of opening it
-abbrev pub startBy : ℕ → ℕ → Opening
-startBy size zero = Opened size
-startBy size (suc n) = Refused (suc n)
-
--- the board is the first n bytes of the area
-pub record Opens (n : ℕ) (area board : List ℕ) : Type 0 where
-  pub has-edition : header ≤ n
-  pub inside : n ≤ length area
-  pub front : take n area ≡ board

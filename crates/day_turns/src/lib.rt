@@ -1,19 +1,15 @@
-// The day program's turns: a call of the script performed on the board, its line, and the opening of the board.
+// The day program's turns: a call of the script performed on the board, and its line.
 use day_lines::LINE;
 use day_orders::Entry;
 use day_orders::Order;
 use day_results::CallResult;
 use day_results::Outcome;
-use dispatch::Answer;
-ghost use mathlib.Core.Path.{_≡_};
-ghost use Prim.Native.Nat.{ℕ, _≤_};
+ghost use Prim.Native.Nat.{_≤_};
 ghost use lib.ListN.{length, take};
 ghost use Rattle.meaning.specs.Limits.{header, dayArea};
 ghost use Rattle.meaning.specs.Fields.{fields};
-ghost use Rattle.meaning.specs.Calls.{opening, onBoard, meant};
-ghost use Rattle.meaning.specs.Day.{dayBoard};
 ghost use Rattle.day_orders.specs.Orders.{callBy};
-ghost use Rattle.day_turns.specs.Turns.{Areas, dayAt, Performed, LineWritten, Turned, startBy, Opens};
+ghost use Rattle.day_turns.specs.Turns.{Areas, dayAt, Performed, LineWritten, Turned};
 
 // Performs a call. The last granted light is the front of the output area: a refused route leaves it there.
 fn perform(
@@ -94,24 +90,5 @@ pub fn turn(
         Entry::Call(o) => perform_line(file, board, out, words, light, o, line),
         Entry::Bad => day_results::ended(light, day_lines::write_line(line, 99, 0, 0)),
         Entry::End => day_results::ended(light, 0),
-    }
-}
-
-// What opening the board came to: its length, or the refusal.
-pub enum Opening {
-    Opened(usize),
-    Refused(u8),
-}
-
-// Opens the part of the area that the site's board takes.
-pub fn start(file: &[u8], area: &mut [u8]) -> Opening
-    requires { ⌜ length (now area) ≡ dayArea ⌝ }
-    ensures { λ r. ⌜ r ≡ startBy (length (dayBoard (now (file .entry)))) (meant (now (file .entry)) (onBoard (dayBoard (now (file .entry)))) opening .number) ⌝ }
-    ensures { λ r. ⌜ ((n : ℕ) → r ≡ Opening.Opened n → Opens n (now (area .exit)) (meant (now (file .entry)) (onBoard (dayBoard (now (file .entry)))) opening .lent .board)) ⌝ }
-{
-    let need = day_results::board_need(file, area.len());
-    match dispatch::open(file, &mut area[..need]) {
-        Answer::Accepted => Opening::Opened(need),
-        Answer::Refused(n) => Opening::Refused(n),
     }
 }

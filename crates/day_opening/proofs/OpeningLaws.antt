@@ -20,8 +20,8 @@ use Rattle.meaning.proofs.CheckLaws.{site-refused}
 use Rattle.answers.specs.declared.Answer.the-variants as A
 use Rattle.answers.specs.Answers.{numberOf, answerOf}
 use Rattle.answers.proofs.Laws.{answer-number}
-use Rattle.day_turns.specs.declared.Opening.the-variants.{Opened, Refused}
-use Rattle.day_turns.specs.Turns.{startBy, Opens}
+use Rattle.day_opening.specs.declared.Opening.the-variants.{Opened, Refused}
+use Rattle.day_opening.specs.Opens.{startBy, Opens}
 
 -- ---- the number
 

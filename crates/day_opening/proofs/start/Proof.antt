@@ -1,4 +1,4 @@
--- `day_turns::start` meets its contract.
+-- `day_opening::start` meets its contract.
 -- Assumes nothing.
 use mathlib.Core.Path.{_≡_, sym, ap, _∙_}
 use borrow.Author.Needs.{needs}
@@ -9,9 +9,9 @@ use Rattle.meaning.specs.Limits.{dayArea}
 use Rattle.meaning.specs.Answers.{lowest}
 use Rattle.meaning.specs.Site.{siteOf, siteRefusals}
 use Rattle.meaning.specs.Board.{boardLength}
-use Rattle.day_turns.proofs.OpeningLaws.{opened, opened-front, refused-start, not-opened}
-use Rattle.day_turns.proofs.start.Statement.{statement}
-use Rattle.day_turns.proofs.start.Tie as tie
+use Rattle.day_opening.proofs.OpeningLaws.{opened, opened-front, refused-start, not-opened}
+use Rattle.day_opening.proofs.start.Statement.{statement}
+use Rattle.day_opening.proofs.start.Tie as tie
 
 -- the board's part of the area
 abbrev start : tie.After-board-need → tie.Start
