@@ -1,4 +1,4 @@
--- What the contracts of the board's calls promise is what is meant, in one equation each, and the site file stays. `Learnt κs arguments result exits` of a
+-- What the contracts of open and interval promise is what is meant, in one equation each, and the site file stays. `Learnt κs arguments result exits` of a
 -- function's `Reads` is what its contract ensures: of the arguments at entry, the result, and the parameters as the function leaves
 -- them. `κs` are the lifetimes of the call's references, and a reference's list is `now` of it.
 -- Assumes nothing.
@@ -7,7 +7,7 @@ use mathlib.Core.Path.{_≡_, ap, _∙_}
 use mathlib.Core.List.{List, []}
 use contract.Lifetimes.{Lfts}
 use denote.Ref.{RefT, now}
-use Rattle.meaning.specs.Calls.{opening, interval, listed, close, withdraw, Lent, lends, meant}
+use Rattle.meaning.specs.Calls.{opening, interval, Lent, lends, meant}
 use Rattle.answers.specs.declared.Answer.{Answer}
 use Rattle.answers.specs.declared.Counted.{Counted}
 use Rattle.answers.specs.Answers.{numberOf, countedNumber, countedValues}
@@ -16,24 +16,12 @@ use Rattle.answers.proofs.DeskLaws.{boardDone, board-exact, interval-exact}
 use Rattle.desk_board.proofs.IntervalLaws.{counted-number, counted-values}
 use Rattle.desk_board.proofs.open.Reads as open-reads
 use Rattle.desk_board.proofs.interval.Reads as interval-reads
-use Rattle.desk_board.proofs.close.Reads as close-reads
-use Rattle.desk_board.proofs.withdraw.Reads as withdraw-reads
 
 -- every exit is a reference of its own: what stays as it was is what the contract says
 module _ (file board file′ left : RefT (List ℕ)) (out words : List ℕ) (r : Answer) where
   pub open-meant : (κs : Lfts 2) → open-reads.Learnt κs (file, (board, tt)) r (file′, (left, tt))
       → (boardDone (numberOf r) (now left) out words ≡ meant (now file) (lends (now board) out words) opening) × (now file′ ≡ now file)
   open-meant κs p = (board-exact (now file) (now board) out words (now left) opening tt (numberOf r) (answered r _ (p .0)) (p .1 .0), p .1 .1)
-
-  pub close-meant : (κs : Lfts 2) (h cell first last h′ cell′ first′ last′ : ℕ)
-      → close-reads.Learnt κs (file, (board, (h, (cell, (first, (last, tt)))))) r (file′, (left, (h′, (cell′, (first′, (last′, tt))))))
-      → (boardDone (numberOf r) (now left) out words ≡ meant (now file) (lends (now board) out words) (listed (close h cell first last))) × (now file′ ≡ now file)
-  close-meant κs h cell first last h′ cell′ first′ last′ p =
-      (board-exact (now file) (now board) out words (now left) (listed (close h cell first last)) tt (numberOf r) (answered r _ (p .0)) (p .1 .0), p .1 .1)
-
-  pub withdraw-meant : (κs : Lfts 2) (h h′ : ℕ) → withdraw-reads.Learnt κs (file, (board, (h, tt))) r (file′, (left, (h′, tt)))
-      → (boardDone (numberOf r) (now left) out words ≡ meant (now file) (lends (now board) out words) (listed (withdraw h))) × (now file′ ≡ now file)
-  withdraw-meant κs h h′ p = (board-exact (now file) (now board) out words (now left) (listed (withdraw h)) tt (numberOf r) (answered r _ (p .0)) (p .1 .0), p .1 .1)
 
 pub interval-meant : (file board out file′ board′ left : RefT (List ℕ)) (words : List ℕ) (r : Counted) (κs : Lfts 3) (cell cell′ : ℕ)
     → interval-reads.Learnt κs (file, (board, (cell, (out, tt)))) r (file′, (board′, (cell′, (left, tt))))

@@ -15,7 +15,8 @@ use Rattle.answers.specs.declared.Counted.{Counted}
 use Rattle.answers.specs.declared.Granted.{Granted}
 use Rattle.answers.specs.Answers.{numberOf, answerOf, countedNumber, countedValues, countedOf, grantedNumber, grantedValues, grantedOf}
 use Rattle.answers.proofs.DeskLaws.{boardDone, lifetimes, lend, turns, AllowsSome, allows-meant, every-run}
-use Rattle.desk_board.proofs.ContractLaws.{open-meant, interval-meant, close-meant, withdraw-meant}
+use Rattle.desk_board.proofs.ContractLaws.{open-meant, interval-meant}
+use Rattle.desk_holder.proofs.ContractLaws.{close-meant, withdraw-meant}
 use Rattle.desk_light.proofs.ContractLaws.{audit-meant, post-meant}
 use Rattle.desk_route.proofs.ContractLaws.{route-meant}
 use Rattle.desk_board.proofs.open.Reads as open-reads
@@ -23,8 +24,8 @@ use Rattle.desk_board.proofs.interval.Reads as interval-reads
 use Rattle.desk_route.proofs.route.Reads as route-reads
 use Rattle.desk_light.proofs.audit.Reads as audit-reads
 use Rattle.desk_light.proofs.post.Reads as post-reads
-use Rattle.desk_board.proofs.close.Reads as close-reads
-use Rattle.desk_board.proofs.withdraw.Reads as withdraw-reads
+use Rattle.desk_holder.proofs.close.Reads as close-reads
+use Rattle.desk_holder.proofs.withdraw.Reads as withdraw-reads
 
 -- `Calls file lent call done`: the contract of the call's function allows this answer and these areas after it. Each parameter as the
 -- function leaves it has a name of its own, so that what stays is learnt from the contract and from nothing else.

@@ -2,10 +2,10 @@
 pub use answers::Answer;
 pub use answers::Counted;
 pub use answers::Granted;
-pub use desk_board::close;
 pub use desk_board::interval;
 pub use desk_board::open;
-pub use desk_board::withdraw;
+pub use desk_holder::close;
+pub use desk_holder::withdraw;
 pub use desk_light::audit;
 pub use desk_light::post;
 pub use desk_route::route;
