@@ -8,7 +8,7 @@ use mathlib.Core.Bool.{Bool, false, not, cond}
 use mathlib.Core.List.{List, [], _∷_}
 use lib.Dec.{eqb}
 use lib.ListN.{length}
-use Rattle.meaning.specs.Limits.{header, lastEdition}
+use Rattle.meaning.specs.Limits.{header, lastEdition, horizonLimit, stateLimit}
 use Rattle.meaning.specs.Basics.{Each}
 use Rattle.meaning.specs.Answers.{Refusal, lowest, answer, accepted, refused}
 use Rattle.meaning.specs.Site.{Site, siteOf, siteRefusals, readSite}
@@ -63,9 +63,9 @@ passed-at n (r ∷ rs) (e, h) = decide (eqb (r .number) n) (λ q. simp q e) (λ 
 -- ---- a board's size
 
 -- a number for each of n and each tick
-pub size-small : (n horizon : ℕ) → n ≤ 256 → horizon ≤ 1000 → n * (horizon + 1) ≤ 256256
+pub size-small : (n horizon : ℕ) → n ≤ stateLimit → horizon ≤ horizonLimit → n * (horizon + 1) ≤ stateLimit * (horizonLimit + 1)
 size-small n horizon few short =
-    let top : n * (horizon + 1) ≤ 256 * (horizon + 1) = mul-le-mul-right (horizon + 1) few in
+    let top : n * (horizon + 1) ≤ stateLimit * (horizon + 1) = mul-le-mul-right (horizon + 1) few in
     omega arith
 
 -- ---- numbers 1 to 7

@@ -68,28 +68,28 @@ module _ (file area : List ℕ) (need : ℕ) (inside : length (take need area) �
   number = same-number file board (dayBoard file) same-size
 
   module _ (e : A.Accepted ≡ answerOf (meant file (onBoard board) opening .number)) where
-    zero-told : meant file (onBoard board) opening .number ≡ 0
-    zero-told = sym (answer-number (meant file (onBoard board) opening .number)) ∙ sym (ap numberOf e)
+    number-zero : meant file (onBoard board) opening .number ≡ 0
+    number-zero = sym (answer-number (meant file (onBoard board) opening .number)) ∙ sym (ap numberOf e)
 
     whole : length board ≡ size
-    whole = same-size (read file board zero-told)
+    whole = same-size (read file board number-zero)
 
     pub opened : Opened need ≡ startBy size (meant file (onBoard (dayBoard file)) opening .number)
-    opened = ap Opened (sym inside ∙ whole) ∙ sym (ap (startBy size) (sym number ∙ zero-told))
+    opened = ap Opened (sym inside ∙ whole) ∙ sym (ap (startBy size) (sym number ∙ number-zero))
 
     pub opened-front : (new : List ℕ) → new ≡ meant file (onBoard board) opening .lent .board → (n : ℕ) → Opened need ≡ Opened n
         → Opens n (new ++ drop need area) (meant file (onBoard (dayBoard file)) opening .lent .board)
     opened-front new w n o =
         let same : need ≡ n = cc in
-        let zeros : new ≡ replicate (length board) 0 = w ∙ opened-board file board zero-told in
+        let zeros : new ≡ replicate (length board) 0 = w ∙ opened-board file board number-zero in
         let long : length new ≡ need = ap length zeros ∙ length-replicate {A = ℕ} (length board) 0 ∙ inside in
-        let count : length board ≡ boardLength (siteOf file) = sized file board zero-told in
+        let count : length board ≡ boardLength (siteOf file) = sized file board number-zero in
         let joined = length-append new (drop need area) in
         rw (← same)
         (record {
           has-edition = omega arith;
           inside = omega arith;
-          front = take-at new (drop need area) need long ∙ zeros ∙ ap (λ (k : ℕ). replicate k 0) whole ∙ sym (opened-board file (dayBoard file) (sym number ∙ zero-told));
+          front = take-at new (drop need area) need long ∙ zeros ∙ ap (λ (k : ℕ). replicate k 0) whole ∙ sym (opened-board file (dayBoard file) (sym number ∙ number-zero));
         })
 
   by-number : (n k : ℕ) → A.Refused n ≡ answerOf k → Refused n ≡ startBy size k

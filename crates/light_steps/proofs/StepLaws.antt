@@ -18,7 +18,7 @@ use Rattle.meaning.proofs.LightLaws.{move-tests, wait-tests}
 use Rattle.fields.specs.declared.Header.{Header}
 use Rattle.fields.specs.Places.{fieldsAt, fieldAt, Whole}
 use Rattle.fields.proofs.Laws.{at-end, at-next, by-place, value-length, value-u16, field-tag, whole-length}
-use Rattle.light_steps.specs.Steps.{stepsFrom, laidFrom, stepBy, stepIn, firstStep, stepAt}
+use Rattle.light_steps.specs.Steps.{stepsFrom, laidFrom, stepBy, stepIn, stepOfFirst, stepAt}
 use Rattle.light_steps.specs.declared.Step.{Step}
 use Rattle.light_steps.specs.declared.Step.the-variants.{Wait, Move, End, Wrong}
 
@@ -65,18 +65,18 @@ in-same tag len n m later h =
 -- ---- the fields at a place give the step there
 
 field-step : (at : ℕ) (f : Field) (fs : Fields)
-    → firstStep at (next f fs) ≡ stepIn (f .tag) (length (f .value)) (u16At (f .value) 0) (at + 3 + length (f .value))
-unfolding stepIn firstStep isMove isWait
+    → stepOfFirst at (next f fs) ≡ stepIn (f .tag) (length (f .value)) (u16At (f .value) 0) (at + 3 + length (f .value))
+unfolding stepIn stepOfFirst isMove isWait
 field-step at f fs = refl
 
 module _ (s : List ℕ) (at : ℕ) where
   pub at-end-step : length s ≤ at → stepAt s at ≡ End
-  unfolding stepAt firstStep
-  at-end-step p = ap (firstStep at) (at-end s at p)
+  unfolding stepAt stepOfFirst
+  at-end-step p = ap (stepOfFirst at) (at-end s at p)
 
   pub at-cut-step : fieldsAt s at ≡ cut → stepAt s at ≡ Wrong
-  unfolding stepAt firstStep
-  at-cut-step e = ap (firstStep at) e
+  unfolding stepAt stepOfFirst
+  at-cut-step e = ap (stepOfFirst at) e
 
   pub at-field-step : (h : Header) → Whole s at h → stepIn (h .tag) (h .len) (u16At s (h .start)) (h .next) ≡ stepAt s at
   unfolding stepAt
@@ -88,7 +88,7 @@ module _ (s : List ℕ) (at : ℕ) where
       let tag : f .tag ≡ h .tag = field-tag s at ∙ sym (w .tag) in
       let number : h .len ≡ stepSize → u16At s (at + 3 + 0) ≡ u16At (f .value) 0 = λ e. sym (value-u16 s at 0 (omega (arith, w .len))) in
       rw (place, start) (in-same (h .tag) (h .len) _ _ _ number
-      ∙ sym (ap (firstStep at) (w .fields) ∙ field-step at f (fieldsAt s (h .next)) ∙ rw (size, tag)))
+      ∙ sym (ap (stepOfFirst at) (w .fields) ∙ field-step at f (fieldsAt s (h .next)) ∙ rw (size, tag)))
 
 -- ---- and back: what each answer says of the fields there
 
@@ -124,17 +124,17 @@ module _ (s : List ℕ) (at : ℕ) where
   places : {X : Type 0} → (fieldsAt s at ≡ end → stepAt s at ≡ End → X) → (fieldsAt s at ≡ cut → stepAt s at ≡ Wrong → X)
       → ((later : ℕ) → Found s at (u16At (fieldAt s at .value) 0) later
       → stepAt s at ≡ stepBy (isMove (fieldAt s at)) (isWait (fieldAt s at)) (u16At (fieldAt s at .value) 0) later → X) → X
-  unfolding stepAt firstStep
+  unfolding stepAt stepOfFirst
   places f g h =
       by-place s at
-      (λ p q. let e = at-end s at p in f e (ap (firstStep at) e))
-      (λ e q. g e (ap (firstStep at) e))
+      (λ p q. let e = at-end s at p in f e (ap (stepOfFirst at) e))
+      (λ e q. g e (ap (stepOfFirst at) e))
       (λ r.
       let e = at-next s at _ refl r in
       let size = value-length s at _ refl r in
       h (at + 3 + u16At s (at + 1))
       (record { ahead = omega arith; inside = r; number = refl; fields = e })
-      (ap (firstStep at) e ∙ ap (λ (k : ℕ). stepBy (isMove (fieldAt s at)) (isWait (fieldAt s at)) (u16At (fieldAt s at .value) 0) (at + 3 + k)) size))
+      (ap (stepOfFirst at) e ∙ ap (λ (k : ℕ). stepBy (isMove (fieldAt s at)) (isWait (fieldAt s at)) (u16At (fieldAt s at .value) 0) (at + 3 + k)) size))
 
   pub is-move : (n later : ℕ) → Move n later ≡ stepAt s at → Found s at n later × (isMove (fieldAt s at) ≡ true)
   is-move n later e =

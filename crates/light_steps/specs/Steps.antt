@@ -36,10 +36,10 @@ unfoldable pub stepIn : ℕ → ℕ → ℕ → ℕ → Step
 stepIn tag len n later =
     stepBy (eqb tag moveTag && eqb len stepSize) (eqb tag waitTag && eqb len stepSize && not (isZero n)) n later
 
-unfoldable pub firstStep : ℕ → Fields → Step
-firstStep at end = End
-firstStep at cut = Wrong
-firstStep at (next f fs) = stepBy (isMove f) (isWait f) (u16At (f .value) 0) (at + fieldHeader + length (f .value))
+unfoldable pub stepOfFirst : ℕ → Fields → Step
+stepOfFirst at end = End
+stepOfFirst at cut = Wrong
+stepOfFirst at (next f fs) = stepBy (isMove f) (isWait f) (u16At (f .value) 0) (at + fieldHeader + length (f .value))
 
 unfoldable pub stepAt : List ℕ → ℕ → Step
-stepAt s at = firstStep at (fieldsAt s at)
+stepAt s at = stepOfFirst at (fieldsAt s at)

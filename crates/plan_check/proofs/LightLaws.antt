@@ -19,6 +19,7 @@ use Rattle.meaning.specs.Calls.{isAt, lightValid, startNamed, stepNamed, lightN
 use Rattle.meaning.proofs.BasicsLaws.{every-at, every-fails}
 use Rattle.light.specs.Heads.{headOf}
 use Rattle.light.specs.declared.Head.{Head}
+use Rattle.light.specs.Sizes.{firstStep}
 use Rattle.light_steps.specs.Steps.{stepsFrom}
 use Rattle.light_read.proofs.HeadLaws.{accepted}
 use Rattle.light_steps.proofs.StepLaws.{On}
@@ -79,7 +80,7 @@ module _ (site : Site) (f : Free) (light : List ℕ) (h : Head) (e : h ≡ headO
       let q : startFree site f (startOf (lightOf light)) ≡ false = sym (ap (startFree site f) (s ∙ ap startIn e)) ∙ p in
       rw q
 
-  pub valid-walk : isLight light ≡ true → startFree site f start ≡ true → (w : Option Plan.Node) → w ≡ walk site f (stepsFrom light 16) start
+  pub valid-walk : isLight light ≡ true → startFree site f start ≡ true → (w : Option Plan.Node) → w ≡ walk site f (stepsFrom light firstStep) start
       → isAt (h .goal) (h .arrival) w ≡ lightValid site f (lightOf light)
   unfolding lightValid planEnd
   valid-walk lit p w g =
@@ -126,7 +127,7 @@ module _ (s : Site) (h : Head) where
 -- the whole light
 pub light-names : (s : Site) (light : List ℕ) (h : Head) (b : Bool) → isLight light ≡ true → h ≡ headOf (lightOf light)
     → every (startNamed s (startIn h) (h .goal) ∷ leb (h .arrival) (s .horizon) ∷ []) ≡ b
-    → lightNamed s (lightOf light) ≡ b && all (stepNamed s) (stepsFrom light 16)
+    → lightNamed s (lightOf light) ≡ b && all (stepNamed s) (stepsFrom light firstStep)
 unfolding lightNamed
 light-names s light h b lit e t =
     let t′ = sym (ap (λ (x : Head). every (startNamed s (startIn x) (x .goal) ∷ leb (x .arrival) (s .horizon) ∷ [])) e) ∙ t in

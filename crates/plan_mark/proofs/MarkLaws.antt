@@ -8,6 +8,7 @@ use mathlib.Core.List.{List, [], _∷_}
 use mathlib.Core.Option.{Option, none, some}
 use lib.ListN.{length}
 use borrow.Author.Tests.{leb-true, ltb-true}
+use Rattle.meaning.specs.Limits.{sweepSize}
 use Rattle.meaning.specs.Site.{Site, Sweep, siteOf, cellOf}
 use Rattle.meaning.specs.Board.{Free, Pair, run, runTo, mark}
 use Rattle.meaning.specs.Plan as Plan
@@ -21,6 +22,7 @@ use Rattle.site_sweeps.specs.declared.Sweep as ReadSweep
 use Rattle.site_sweeps.proofs.Laws.{restAt, rest-whole, rest-none, rest-next}
 use Rattle.light.specs.Heads.{headOf}
 use Rattle.light.specs.declared.Head.{Head}
+use Rattle.light.specs.Sizes.{firstStep}
 use Rattle.light_steps.specs.Steps.{laidFrom, stepsFrom}
 use Rattle.light_read.proofs.HeadLaws.{accepted}
 use Rattle.light_steps.proofs.StepLaws.{On}
@@ -43,14 +45,14 @@ module _ (site : Site) (h : ℕ) (file : List ℕ) (at n t : ℕ) where
   pub swept-all : (board : List ℕ) → mark site h (sweptPairs (restAt file at n 0) t) board ≡ mark site h (sweptPairs (sweepsAt file at n) t) board
   swept-all board = ap (λ (ws : List Sweep). mark site h (sweptPairs ws t) board) (rest-whole file at n)
 
-  pub swept-next : (i : ℕ) (w : ReadSweep.Sweep) (board new : List ℕ) → i < n → at + 3 * n ≤ length file → SweepIs (sweepAt file (at + 3 * i)) w
+  pub swept-next : (i : ℕ) (w : ReadSweep.Sweep) (board new : List ℕ) → i < n → at + sweepSize * n ≤ length file → SweepIs (sweepAt file (at + sweepSize * i)) w
       → new ≡ mark site h (runTo (w .cell) (t + w .first) (t + w .last)) board
       → mark site h (sweptPairs (restAt file at n i) t) board ≡ mark site h (sweptPairs (restAt file at n (i + 1)) t) new
   swept-next i w board new lt inside u e =
       let ps : Sweep → List Pair = λ v. runTo (v .cell) (t + v .first) (t + v .last) in
       let ws = restAt file at n (i + 1) in
       ap (λ (x : List Sweep). mark site h (sweptPairs x t) board) (rest-next file at n i lt inside)
-      ∙ mark-append site h (ps (sweepAt file (at + 3 * i))) (sweptPairs ws t) board
+      ∙ mark-append site h (ps (sweepAt file (at + sweepSize * i))) (sweptPairs ws t) board
       ∙ ap (mark site h (sweptPairs ws t)) (ap (λ (v : Sweep). mark site h (ps v) board) (sym (u .same)) ∙ sym e)
 
   pub swept-end : (i : ℕ) (board : List ℕ) → n ≤ i → mark site h (sweptPairs (restAt file at n i) t) board ≡ board
@@ -127,20 +129,20 @@ module _ (file : List ℕ) (f : Free) (light : List ℕ) (lit : isLight light �
       let ok = when-test _ (walk (siteOf file) f (l .steps) (startOf l)) ends in
       start-known file f start (ap (startFree (siteOf file) f) begins ∙ ok)
 
-  pub valid-steps : InTime (siteOf file) (stepsFrom light 16) (nodeOf start)
+  pub valid-steps : InTime (siteOf file) (stepsFrom light firstStep) (nodeOf start)
   unfolding lightValid planEnd
   valid-steps =
       let l = lightOf light in
       let site = siteOf file in
       let (b, ends) = valid-end (l .goal) (l .arrival) (planEnd site f (startOf l) (l .steps)) valid in
       let led = when-value (startFree site f (startOf l)) (walk site f (l .steps) (startOf l)) ends in
-      subst (InTime site (stepsFrom light 16)) (sym begins)
+      subst (InTime site (stepsFrom light firstStep)) (sym begins)
       (subst (λ (ps : List Plan.Step). InTime site ps (startOf l)) (sym (accepted light lit .steps)) (walk-in-time site f (l .steps) (startOf l) b led))
 
 -- the start's pair, and then the steps'
 pub light-marks : (site : Site) (light : List ℕ) (hd : Head) (start : Node) (old mid new : List ℕ) → isLight light ≡ true → hd ≡ headOf (lightOf light)
     → nodeOf start ≡ startIn hd → mid ≡ mark site (hd .tug) (stepPairs site (wait 0) (nodeOf start)) old
-    → new ≡ mark site (hd .tug) (walkPairs site (stepsFrom light 16) (nodeOf start)) mid
+    → new ≡ mark site (hd .tug) (walkPairs site (stepsFrom light firstStep) (nodeOf start)) mid
     → new ≡ mark site (lightOf light .tug) (lightPairs site (lightOf light)) old
 unfolding planPairs
 light-marks site light hd start old mid new lit e s p q =
@@ -150,6 +152,6 @@ light-marks site light hd start old mid new lit e s p q =
     let pair : stepPairs site (wait 0) (startOf l) ≡ record { cell = cellOf site (l .start); tick = l .tick } ∷ [] = ap (run (cellOf site (l .start)) (l .tick)) one in
     let tug : hd .tug ≡ l .tug = ap (λ (x : Head). x .tug) e in
     q
-    ∙ ap (mark site (hd .tug) (walkPairs site (stepsFrom light 16) (nodeOf start))) p
+    ∙ ap (mark site (hd .tug) (walkPairs site (stepsFrom light firstStep) (nodeOf start))) p
     ∙ (λ i. mark site (tug i) (walkPairs site (accepted light lit .steps i) (begins i)) (mark site (tug i) (stepPairs site (wait 0) (begins i)) old))
     ∙ ap (λ (ps : List Pair). mark site (l .tug) (walkPairs site (l .steps) (startOf l)) (mark site (l .tug) ps old)) pair

@@ -7,7 +7,7 @@ use mathlib.Core.Bool.{Bool, true}
 use mathlib.Core.List.{List}
 use lib.ListN.{length}
 use lib.Dec.{leb, ltb}
-use Rattle.meaning.specs.Limits.{horizonLimit}
+use Rattle.meaning.specs.Limits.{horizonLimit, sweepSize}
 use Rattle.meaning.specs.Site.{Sweep, siteOf, motionAt, cellOf, sweepGood}
 use Rattle.meaning.specs.Board.{Free}
 use Rattle.meaning.specs.Plan.{freeFromTo}
@@ -81,10 +81,10 @@ useFree f t w = freeFromTo f (w .cell) (t + w .first) (t + w .last)
 
 -- each keeps to the cells and to the span, so it ends by the horizon where its motion does
 pub swept-at : (file : List ℕ) (at n d i t : ℕ) (w : ReadSweep.Sweep) → Sweeps file at n d → i < n → t + d ≤ siteOf file .horizon
-    → SweepIs (sweepAt file (at + 3 * i)) w → Swept file w t
+    → SweepIs (sweepAt file (at + sweepSize * i)) w → Swept file w t
 swept-at file at n d i t w s h in-time u =
     let cells = siteOf file .cells in
-    let v = sweepAt file (at + 3 * i) in
+    let v = sweepAt file (at + sweepSize * i) in
     let size = sweeps-length n file at (s .inside) in
     let good : sweepGood cells d v ≡ true =
     subst (λ (x : Sweep). sweepGood cells d x ≡ true) (sweeps-at i n file at v h (s .inside))

@@ -5,6 +5,7 @@ use mathlib.Core.Path.{_≡_}
 use mathlib.Core.List.{List}
 use mathlib.Core.Bool.{true}
 use lib.ListN.{length}
+use Rattle.meaning.specs.Limits.{sweepSize}
 use Rattle.meaning.specs.Basics.{all}
 use Rattle.meaning.specs.Site.{sweepGood, siteOf}
 use Rattle.site_sweeps.specs.Places.{sweepsAt}
@@ -12,7 +13,7 @@ use Rattle.site_sweeps.specs.declared.Sweep as ReadSweep
 
 -- n sweeps stand from the place at on, and keep to the site's cells and to the span d
 pub record Sweeps (file : List ℕ) (at n d : ℕ) : Type 0 where
-  pub inside : at + 3 * n ≤ length file
+  pub inside : at + sweepSize * n ≤ length file
   pub good : all (sweepGood (siteOf file .cells) d) (sweepsAt file at n) ≡ true
 
 -- a sweep of a motion that starts at the tick t: its cell is the site's, and it ends by the horizon

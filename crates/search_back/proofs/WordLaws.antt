@@ -10,6 +10,7 @@ use mathlib.Core.List.{List, [], _∷_}
 use lib.Dec.{leb, ltb, eqb}
 use lib.ListN.{length}
 use borrow.Author.Tests.{leb-true, le-leb, lt-leb, lt-ltb, le-ltb, ltb-true, ltb-false, eq-eqb, ne-eqb, eqb-true}
+use Rattle.meaning.specs.Limits.{horizonLimit}
 use Rattle.meaning.specs.Basics.{every, least, isZero}
 use Rattle.meaning.specs.Site.{Site, Motion, cellOf, motionAt}
 use Rattle.meaning.specs.Board.{Free}
@@ -117,7 +118,7 @@ module _ (site : Site) (well : WellFormed site) (f : Free) (a : Node) (n k : ℕ
         ∙ ap (λ (c : ℕ). wordBy (waited site f a j s) (least (arrives site f a j s) 0 c)) count
         ∙ sym (word-next site well f a j s known)
 
-  word-right : (s t : ℕ) → s < n → a .tick ≤ t → t ≤ site .horizon → site .horizon ≤ 1000 → wordAt st mv fr al re k (a .tick) s t ≡ reachWord site f a (t - a .tick) s
+  word-right : (s t : ℕ) → s < n → a .tick ≤ t → t ≤ site .horizon → site .horizon ≤ horizonLimit → wordAt st mv fr al re k (a .tick) s t ≡ reachWord site f a (t - a .tick) s
   unfolding wordAt
   word-right s t below late in-time few =
       decide (ltb (a .tick) t)
@@ -264,7 +265,7 @@ pub arrival-says : (re : List ℕ) (goal tick horizon r : ℕ) → tick ≤ hori
 arrival-says re goal tick horizon r early e site f start well same-horizon rows =
     let a : Node = at start tick in
     let n : ℕ = horizon - tick in
-    let few : site .horizon ≤ 1000 = well .horizon-range .1 in
+    let few : site .horizon ≤ horizonLimit = well .horizon-range .1 in
     let size : horizon + 1 - tick ≡ suc (horizon - tick) = omega arith in
     let from : tick + 0 ≡ tick = omega arith in
     let there : ℕ → Bool = λ (k : ℕ). not (isZero (wordIn (rowsTo site f (at start tick) (horizon - tick)) (horizon - tick) k goal)) in

@@ -6,6 +6,7 @@ ghost use mathlib.Core.List.{List};
 ghost use Prim.Native.Nat.{ℕ, _+_, _*_, _-_, _≤_, _<_};
 ghost use lib.Dec.{leb};
 ghost use lib.ListN.{length};
+ghost use Rattle.meaning.specs.Limits.{horizonLimit};
 ghost use Rattle.meaning.specs.Site.{Site};
 ghost use Rattle.meaning.specs.Board.{Free};
 ghost use Rattle.meaning.specs.WellFormed.{WellFormed};
@@ -18,7 +19,7 @@ ghost use Rattle.search_back.specs.Words.{waitHit, moveHit, firstMove, a
 
 // The first tick from `tick` on at which the goal is reached, or the tick after the horizon.
 pub fn arrival(reached: &[u64], goal: usize, tick: usize, horizon: usize) -> usize
-    requires { ⌜ (goal * rowWords + rowWords ≤ length (now reached)) × ((tick ≤ horizon) × (horizon ≤ 1000)) ⌝ }
+    requires { ⌜ (goal * rowWords + rowWords ≤ length (now reached)) × ((tick ≤ horizon) × (horizon ≤ horizonLimit)) ⌝ }
     ensures { λ r. ⌜ tick ≤ r ⌝ }
     ensures { λ r. ⌜ ((site : Site) (f : Free) (start : ℕ) → WellFormed site → site .horizon ≡ horizon
         → ReachedRows site f (node start tick) (now (reached .entry))
@@ -116,7 +117,7 @@ pub fn word_at(
 ) -> usize
     requires { ⌜ States n (now states) × Motions k (now moves) ⌝ }
     requires { ⌜ (freeWords ≤ length (now frees)) × ((k * rowWords ≤ length (now allowed)) × (reachedWords ≤ length (now reached))) ⌝ }
-    requires { ⌜ (s < n) × ((tick ≤ t) × (t ≤ 1000)) ⌝ }
+    requires { ⌜ (s < n) × ((tick ≤ t) × (t ≤ horizonLimit)) ⌝ }
     ensures { λ r. ⌜ ((site : Site) (f : Free) (start : ℕ) (sw : List ℕ) → WellFormed site → t ≤ site .horizon
         → Sets site f (node start tick) n k (now (states .entry)) (now (moves .entry)) sw (now (frees .entry)) (now (allowed .entry)) (now (reached .entry))
         → r ≡ reachWord site f (node start tick) (t - tick) s) ⌝ }

@@ -10,11 +10,12 @@ use lib.Pow.{pow-mono}
 use lib.Dec.{ltb, leb, eqb}
 use lib.ListN.{length, getD, set, replicate, length-replicate}
 use borrow.Author.Tests.{ltb-true, ltb-false, le-leb, eqb-true, eqb-false}
+use Rattle.meaning.specs.Limits.{horizonLimit, header}
 use Rattle.meaning.specs.Basics.{every}
 use Rattle.meaning.specs.Site.{Site}
 use Rattle.meaning.specs.Board.{free}
 use Rattle.meaning.proofs.BasicsLaws.{decide}
-use Rattle.search_sizes.specs.Sizes.{rowTicks}
+use Rattle.search_sizes.specs.Sizes.{rowTicks, freeWords}
 use Rattle.search_ticks.specs.Bits.{odd, bit}
 use Rattle.search_ticks.specs.Rows.{has, ZeroFrom, Changed, rowsFree}
 use Rattle.search_free.specs.Frees.{freeBit, freeWord, freeTo}
@@ -120,14 +121,14 @@ free-row-done b l₀ l c s width room e =
 
 -- the first n cells' rows are done, and the others are empty
 pub record FreeRows (b : List ℕ) (width : ℕ) (l : List ℕ) (n : ℕ) : Type 0 where
-  pub done : (c t : ℕ) → c < n → t < rowTicks → has l c t ≡ freeTo b (4 + c * width) width t
+  pub done : (c t : ℕ) → c < n → t < rowTicks → has l c t ≡ freeTo b (header + c * width) width t
   pub left : (c t : ℕ) → n ≤ c → t < rowTicks → has l c t ≡ false
-  pub sized : length l ≡ 4096
+  pub sized : length l ≡ freeWords
 
-pub rows-none : (b : List ℕ) (width : ℕ) → FreeRows b width (replicate 4096 0) 0
-rows-none b width = record { done = λ c t h. absurd (omega arith); left = λ c t h e. empty-row 4096 c t; sized = length-replicate {A = ℕ} 4096 0 }
+pub rows-none : (b : List ℕ) (width : ℕ) → FreeRows b width (replicate freeWords 0) 0
+rows-none b width = record { done = λ c t h. absurd (omega arith); left = λ c t h e. empty-row freeWords c t; sized = length-replicate {A = ℕ} freeWords 0 }
 
-pub rows-more : (b : List ℕ) (width : ℕ) (l l′ : List ℕ) (c : ℕ) → Changed l l′ c (freeTo b (4 + c * width) width) → FreeRows b width l c → FreeRows b width l′ (c + 1)
+pub rows-more : (b : List ℕ) (width : ℕ) (l l′ : List ℕ) (c : ℕ) → Changed l l′ c (freeTo b (header + c * width) width) → FreeRows b width l c → FreeRows b width l′ (c + 1)
 rows-more b width l l′ c step g =
     record {
       done = λ x t h e.
@@ -141,7 +142,7 @@ rows-more b width l l′ c step g =
 pub cell-run : (c cells w : ℕ) → c < cells → c * w + w ≤ cells * w
 cell-run c cells w h = omega (arith, mul-le-mul-right {m = suc c} {n = cells} w h, suc-mul c w)
 
-module _ (b l : List ℕ) (site : Site) (cells horizon n : ℕ) (few : horizon ≤ 1000) (all : cells ≤ n) (only : n ≤ cells)
+module _ (b l : List ℕ) (site : Site) (cells horizon n : ℕ) (few : horizon ≤ horizonLimit) (all : cells ≤ n) (only : n ≤ cells)
     (same-cells : site .cells ≡ cells) (same-horizon : site .horizon ≡ horizon) (g : FreeRows b (horizon + 1) l n) where
   held-past : (c t : ℕ) → (c < cells → t ≤ horizon → ⊥) → free site b c t ≡ false
   unfolding free every
@@ -169,7 +170,7 @@ module _ (b l : List ℕ) (site : Site) (cells horizon n : ℕ) (few : horizon �
       simp (early, g .done c t (omega arith) lt, f, same-cells, same-horizon, e, le-leb t horizon (omega arith), and-true))
       (λ f.
       let late : horizon + 1 ≤ t = ltb-false t (horizon + 1) f in
-      simp early (g .done c t (omega arith) lt ∙ ap (λ (x : Bool). x && eqb (getD b (4 + c * (horizon + 1) + t) 0) 0) f ∙ sym (held-past c t (λ i j. omega arith)))))
+      simp early (g .done c t (omega arith) lt ∙ ap (λ (x : Bool). x && eqb (getD b (header + c * (horizon + 1) + t) 0) 0) f ∙ sym (held-past c t (λ i j. omega arith)))))
       (λ e.
       let outside : cells ≤ c = ltb-false c cells e in
       simp early (g .left c t (omega arith) lt ∙ sym (held-past c t (λ i j. omega arith)))))

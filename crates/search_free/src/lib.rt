@@ -4,6 +4,7 @@ use search_sizes::ROW_WORDS;
 ghost use mathlib.Core.Path.{_≡_};
 ghost use Prim.Native.Nat.{ℕ, _+_, _*_, _≤_, min};
 ghost use lib.ListN.{length};
+ghost use Rattle.meaning.specs.Limits.{horizonLimit, cellLimit, header};
 ghost use Rattle.meaning.specs.Site.{Site};
 ghost use Rattle.meaning.specs.Board.{free};
 ghost use Rattle.search_sizes.specs.Sizes.{rowWords, rowTicks};
@@ -80,9 +81,9 @@ fn free_row(l: &mut [u64], board: &[u8], c: usize, start: usize, width: usize)
     }
 }
 
-// The free ticks of every cell, a row each; the board's first 4 bytes are no cell's.
+// The free ticks of every cell, a row each, which stand behind the board's header.
 pub fn free_rows(board: &[u8], cells: usize, horizon: usize) -> [u64; FREE_WORDS]
-    requires { ⌜ (cells ≤ 255) × ((horizon ≤ 1000) × (4 + cells * (horizon + 1) ≤ length (now board))) ⌝ }
+    requires { ⌜ (cells ≤ cellLimit) × ((horizon ≤ horizonLimit) × (header + cells * (horizon + 1) ≤ length (now board))) ⌝ }
     ensures { λ r. ⌜ ((site : Site) → site .cells ≡ cells → site .horizon ≡ horizon
         → (c t : ℕ) → rowsFree r c t ≡ free site (now (board .entry)) c t) ⌝ }
 {
@@ -90,7 +91,7 @@ pub fn free_rows(board: &[u8], cells: usize, horizon: usize) -> [u64; FREE_WORDS
     let mut l = [0u64; FREE_WORDS];
     let mut c = 0;
     while c < cells {
-        free_row(&mut l, board, c, 4 + c * width, width);
+        free_row(&mut l, board, c, board::HEADER + c * width, width);
         c += 1;
     }
     l

@@ -8,6 +8,7 @@ use mathlib.Core.Option.{none, some}
 use mathlib.Core.List.{List}
 use lib.Dec.{leb}
 use lib.ListN.{length}
+use Rattle.meaning.specs.Limits.{horizonLimit, cellLimit, stateLimit, header}
 use Rattle.meaning.specs.Site.{Site, siteOf}
 use Rattle.meaning.specs.WellFormed.{WellFormed}
 use Rattle.meaning.specs.Board.{Free, free}
@@ -32,11 +33,11 @@ use Rattle.search_plan.specs.Planned.{Asked, routeOn, Planned}
 
 -- the numbers that keep each index of the search in range
 pub record Ranges (l : Sizes) (trip : Trip) : Type 0 where
-  pub short : l .horizon ≤ 1000
+  pub short : l .horizon ≤ horizonLimit
   pub in-time : trip .tick ≤ l .horizon
   pub start-below : trip .start < l .states
   pub goal-below : trip .goal < l .states
-  pub states-few : l .states ≤ 256
+  pub states-few : l .states ≤ stateLimit
   pub motions-few : l .motions ≤ 2000
 
 -- the arrays and rows are the sets of the search on the board
@@ -92,7 +93,7 @@ module _ (file board : List ℕ) (l : Sizes) (trip : Trip) (q : Asked file l (le
         motions-few = omega (arith, w .motions-range);
       }
 
-  pub board-fits : (l .cells ≤ 255) × ((l .horizon ≤ 1000) × (4 + l .cells * (l .horizon + 1) ≤ length board))
+  pub board-fits : (l .cells ≤ cellLimit) × ((l .horizon ≤ horizonLimit) × (header + l .cells * (l .horizon + 1) ≤ length board))
   board-fits =
       let size : length board ≡ 4 + l .cells * (l .horizon + 1) =
       q .ready .board ∙ ap (λ (c : ℕ). 4 + c * (site .horizon + 1)) same-cells ∙ ap (λ (h : ℕ). 4 + l .cells * (h + 1)) same-horizon in

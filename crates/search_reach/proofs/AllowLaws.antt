@@ -10,6 +10,7 @@ use lib.Dec.{eqb}
 use lib.Pow.{pow-pos}
 use lib.ListN.{length, replicate, length-replicate, getD-replicate}
 use borrow.Author.Tests.{eqb-true, eqb-false}
+use Rattle.meaning.specs.Limits.{sweepSize}
 use Rattle.meaning.specs.Basics.{all}
 use Rattle.meaning.specs.Site.{Sweep}
 use Rattle.meaning.specs.Board.{Free}
@@ -30,25 +31,25 @@ use Rattle.search_site.specs.Arrays.{placeAt, countAt}
 -- ---- the sweeps of one motion: what is left to test, with the row as it is, is the whole test of the row as it was
 
 pub record Narrowing (sw : List ℕ) (f : Free) (l₀ l : List ℕ) (m p n i : ℕ) : Type 0 where
-  pub left : (t : ℕ) → t < rowTicks → (has l m t && sweepsFree f (sweepsAt sw (p + 3 * i) (n - i)) t) ≡ (has l₀ m t && sweepsFree f (sweepsAt sw p n) t)
+  pub left : (t : ℕ) → t < rowTicks → (has l m t && sweepsFree f (sweepsAt sw (p + sweepSize * i) (n - i)) t) ≡ (has l₀ m t && sweepsFree f (sweepsAt sw p n) t)
   pub others : (x t : ℕ) → (x ≡ m → ⊥) → t < rowTicks → has l x t ≡ has l₀ x t
   pub sized : length l ≡ length l₀
 
 pub narrowing-start : (sw : List ℕ) (f : Free) (l : List ℕ) (m p n : ℕ) → Narrowing sw f l l m p n 0
 narrowing-start sw f l m p n =
-    let from : p + 3 * 0 ≡ p = omega arith in
+    let from : p + sweepSize * 0 ≡ p = omega arith in
     let whole : n - 0 ≡ n = omega arith in
     record { left = λ t h. rw (from, whole); others = λ x t ne h. refl; sized = refl }
 
 -- one more sweep, as it was read
-module _ (sw : List ℕ) (f : Free) (p n i : ℕ) (lt : i < n) (long : p + 3 * n ≤ length sw) (r : Read.Sweep) (is : SweepIs (sweepAt sw (p + 3 * i)) r) where
-  sweeps-first : (t : ℕ) → sweepsFree f (sweepsAt sw (p + 3 * i) (n - i)) t
-      ≡ (freeFromTo f (r .cell) (t + r .first) (t + r .last) && sweepsFree f (sweepsAt sw (p + 3 * (i + 1)) (n - (i + 1))) t)
+module _ (sw : List ℕ) (f : Free) (p n i : ℕ) (lt : i < n) (long : p + sweepSize * n ≤ length sw) (r : Read.Sweep) (is : SweepIs (sweepAt sw (p + sweepSize * i)) r) where
+  sweeps-first : (t : ℕ) → sweepsFree f (sweepsAt sw (p + sweepSize * i) (n - i)) t
+      ≡ (freeFromTo f (r .cell) (t + r .first) (t + r .last) && sweepsFree f (sweepsAt sw (p + sweepSize * (i + 1)) (n - (i + 1))) t)
   unfolding all
   sweeps-first t =
       let less : n - i - 1 ≡ n - (i + 1) = omega arith in
-      let next : p + 3 * i + 3 ≡ p + 3 * (i + 1) = omega arith in
-      ap (λ (ws : List Sweep). sweepsFree f ws t) (sweeps-next sw (p + 3 * i) (n - i) (omega arith) (omega arith))
+      let next : p + sweepSize * i + sweepSize ≡ p + sweepSize * (i + 1) = omega arith in
+      ap (λ (ws : List Sweep). sweepsFree f ws t) (sweeps-next sw (p + sweepSize * i) (n - i) (omega arith) (omega arith))
       ∙ rw (less, next, ap (λ (w : Sweep). w .cell) (is .same), ap (λ (w : Sweep). w .first) (is .same), ap (λ (w : Sweep). w .last) (is .same))
 
   pub narrowing-turn : (l₀ l l′ : List ℕ) (m : ℕ) → Changed l l′ m (λ (t : ℕ). has l m t && freeFromTo f (r .cell) (t + r .first) (t + r .last))
@@ -56,7 +57,7 @@ module _ (sw : List ℕ) (f : Free) (p n i : ℕ) (lt : i < n) (long : p + 3 * n
   narrowing-turn l₀ l l′ m step g =
       record {
         left = λ t h.
-            let rest : Bool = sweepsFree f (sweepsAt sw (p + 3 * (i + 1)) (n - (i + 1))) t in
+            let rest : Bool = sweepsFree f (sweepsAt sw (p + sweepSize * (i + 1)) (n - (i + 1))) t in
             ap (λ (x : Bool). x && rest) (step .here t h)
             ∙ and-assoc (has l m t) (freeFromTo f (r .cell) (t + r .first) (t + r .last)) rest
             ∙ ap (λ (x : Bool). has l m t && x) (sym (sweeps-first t))
@@ -73,7 +74,7 @@ pub narrowing-end : (sw : List ℕ) (f : Free) (l₀ l : List ℕ) (m p n i : �
     → Changed l₀ l m (λ (t : ℕ). has l₀ m t && sweepsFree f (sweepsAt sw p n) t)
 narrowing-end sw f l₀ l m p n i most g =
     record {
-      here = λ t h. sym (and-true (has l m t)) ∙ ap (λ (x : Bool). has l m t && x) (sym (no-sweeps sw f (p + 3 * i) t (n - i) (omega arith))) ∙ g .left t h;
+      here = λ t h. sym (and-true (has l m t)) ∙ ap (λ (x : Bool). has l m t && x) (sym (no-sweeps sw f (p + sweepSize * i) t (n - i) (omega arith))) ∙ g .left t h;
       others = g .others;
       sized = g .sized;
     }

@@ -9,6 +9,7 @@ use mathlib.Core.List.{List}
 use lib.Dec.{leb, ltb}
 use lib.ListN.{length}
 use borrow.Author.Tests.{leb-true, le-leb, lt-ltb, eq-eqb, eqb-true}
+use Rattle.meaning.specs.Limits.{horizonLimit}
 use Rattle.meaning.specs.Basics.{allFrom, here, there}
 use Rattle.meaning.specs.Site.{Site, Sweep, Motion, stateAt, motionAt, cellOf}
 use Rattle.meaning.specs.Board.{Free, free}
@@ -89,7 +90,7 @@ module _ (site : Site) (well : WellFormed site) (board : List ℕ) (n k : ℕ) (
   unfolding free
   in-time c t h = leb-true _ _ (every-at _ h 1)
 
-  few : site .horizon ≤ 1000
+  few : site .horizon ≤ horizonLimit
   few = well .horizon-range .1
 
   same-free : rowsFree fr ≡ f

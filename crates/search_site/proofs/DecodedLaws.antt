@@ -5,6 +5,7 @@ use mathlib.Core.Path.{_≡_, sym, ap, _∙_, subst}
 use mathlib.Core.List.{List}
 use native.Mathlib.Omega.{arith}
 use lib.ListN.{length, getD}
+use Rattle.meaning.specs.Limits.{sweepSize}
 use Rattle.meaning.specs.Answers.{accepted}
 use Rattle.meaning.specs.Site.{Sweep, Motion, Site, siteOf, readSite, motionAt}
 use Rattle.meaning.specs.WellFormed.{WellFormed}
@@ -47,7 +48,7 @@ module _ (file : List ℕ) (e : readSite file ≡ accepted (siteOf file)) where
         record { from = omega arith; to = omega arith; first = omega arith; count = omega arith }
 
     -- each of its sweeps, where it stands in the file
-    sweep-fits : (j : ℕ) → j < r .count → let w = sweepAt file (r .first + 3 * j) in (w .cell < 256) × (w .first ≤ w .last)
+    sweep-fits : (j : ℕ) → j < r .count → let w = sweepAt file (r .first + sweepSize * j) in (w .cell < 256) × (w .first ≤ w .last)
     sweep-fits j q =
         let ws = motionAt site m .sweeps in
         let none : Sweep = record { cell = 0; first = 0; last = 0 } in

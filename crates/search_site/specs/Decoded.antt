@@ -4,6 +4,7 @@ use Prim.Native.Nat.{ℕ, _+_, _*_, _≤_, _<_}
 use mathlib.Core.Path.{_≡_}
 use mathlib.Core.List.{List}
 use lib.ListN.{length, set}
+use Rattle.meaning.specs.Limits.{sweepSize}
 use Rattle.meaning.specs.Site.{Site, Sweep, siteOf, stateAt, motionAt}
 use Rattle.search_sizes.specs.Sizes.{cellRows}
 use Rattle.site_sweeps.specs.Places.{sweepAt, sweepsAt}
@@ -31,9 +32,9 @@ pub record Decoded (site : Site) (n k : ℕ) (st mv sw : List ℕ) : Type 0 wher
 
 -- n sweeps from place p on: within the bytes, of known cells, and none ends before it begins
 pub record SweepsIn (sw : List ℕ) (p n : ℕ) : Type 0 where
-  pub long : p + 3 * n ≤ length sw
-  pub cell : (i : ℕ) → i < n → sweepAt sw (p + 3 * i) .cell < cellRows
-  pub order : (i : ℕ) → i < n → sweepAt sw (p + 3 * i) .first ≤ sweepAt sw (p + 3 * i) .last
+  pub long : p + sweepSize * n ≤ length sw
+  pub cell : (i : ℕ) → i < n → sweepAt sw (p + sweepSize * i) .cell < cellRows
+  pub order : (i : ℕ) → i < n → sweepAt sw (p + sweepSize * i) .first ≤ sweepAt sw (p + sweepSize * i) .last
 
 abbrev pub Sweeps : ℕ → List ℕ → List ℕ → Type 0
 Sweeps k mv sw = (m : ℕ) → m < k → SweepsIn sw (placeAt mv m) (countAt mv m)

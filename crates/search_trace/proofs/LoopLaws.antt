@@ -5,6 +5,7 @@ use native.Mathlib.Omega.{arith}
 use mathlib.Core.Path.{_≡_, refl, sym, ap, _∙_, subst}
 use mathlib.Core.List.{List, [], _∷_}
 use lib.ListN.{length}
+use Rattle.meaning.specs.Limits.{horizonLimit}
 use Rattle.meaning.specs.Site.{Site, motionAt}
 use Rattle.meaning.specs.Board.{Free}
 use Rattle.meaning.specs.Plan.{Step, wait, move, node}
@@ -38,8 +39,8 @@ module _ (n k : ℕ) (st mv fr al re : List ℕ) (tick goal arrival : ℕ) where
   pub record Going (s t : ℕ) (ps : List Step) : Type 0 where
     pub state : s < n
     pub started : tick ≤ t
-    pub few : length ps + t ≤ 1000
-    pub waits : waitInFront ps + t ≤ 1000
+    pub few : length ps + t ≤ horizonLimit
+    pub waits : waitInFront ps + t ≤ horizonLimit
     pub rest : (x : Search) (h : Found x n k st mv fr al re tick goal arrival) → RestOf x h s t ps
 
   -- w is the word of the pair

@@ -4,6 +4,7 @@ ghost use mathlib.Core.Path.{_≡_};
 ghost use mathlib.Core.List.{_∷_};
 ghost use Prim.Native.Nat.{_*_, _≤_, _<_};
 ghost use lib.ListN.{length};
+ghost use Rattle.meaning.specs.Limits.{horizonLimit};
 ghost use Rattle.meaning.specs.Plan.{move};
 ghost use Rattle.meaning.specs.Reach.{waitOne};
 ghost use Rattle.search_sizes.specs.Sizes.{rowWords, motionRows, freeWords, reachedWords};
@@ -22,7 +23,7 @@ fn push(path: &mut [u16], count: usize, code: u16) -> usize
 
 // One more tick of waiting in front of the steps: a wait on top grows by it.
 fn push_wait(path: &mut [u16; CODE_LIMIT], count: usize) -> usize
-    requires { ⌜ (count < codeLimit) × (waitInFront (stepsIn (now path) count) < 1000) ⌝ }
+    requires { ⌜ (count < codeLimit) × (waitInFront (stepsIn (now path) count) < horizonLimit) ⌝ }
     ensures { λ r. ⌜ stepsIn (now (path .exit)) r ≡ waitOne (stepsIn (now (path .entry)) count) ⌝ }
 {
     if count == 0 {

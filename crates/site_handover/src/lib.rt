@@ -4,6 +4,7 @@ ghost use mathlib.Core.Path.{_≡_};
 ghost use mathlib.Core.Bool.{_&&_, false};
 ghost use Prim.Native.Nat.{_+_, _*_, _<_, _≤_};
 ghost use lib.ListN.{length};
+ghost use Rattle.meaning.specs.Limits.{sweepSize};
 ghost use Rattle.meaning.specs.Basics.{allBelow};
 ghost use Rattle.meaning.specs.Site.{uses, handover, sweepsGood};
 ghost use Rattle.site_sweeps.specs.Places.{sweepsAt, sweepOf};
@@ -11,7 +12,7 @@ ghost use Rattle.site_handover.specs.Links.{Within, Linked};
 
 // The cell is used at both `j` and `j` + 1.
 fn carried(file: &[u8], at: usize, count: usize, cell: usize, j: u8) -> bool
-    requires { ⌜ (at + 3 * count ≤ length (now file)) × (j < 255) ⌝ }
+    requires { ⌜ (at + sweepSize * count ≤ length (now file)) × (j < 255) ⌝ }
     ensures { λ r. ⌜ r ≡ (uses (sweepsAt (now (file .entry)) at count) cell j && uses (sweepsAt (now (file .entry)) at count) cell (j + 1)) ⌝ }
 {
     if site_sweeps::used(file, at, count, cell, j) {
@@ -23,7 +24,7 @@ fn carried(file: &[u8], at: usize, count: usize, cell: usize, j: u8) -> bool
 
 // Some one cell is used at both `j` and `j` + 1.
 fn handed_over(file: &[u8], at: usize, count: usize, j: u8) -> bool
-    requires { ⌜ (at + 3 * count ≤ length (now file)) × (j < 255) ⌝ }
+    requires { ⌜ (at + sweepSize * count ≤ length (now file)) × (j < 255) ⌝ }
     ensures { λ r. ⌜ r ≡ handover (sweepsAt (now (file .entry)) at count) j ⌝ }
 {
     let mut i = 0;
@@ -52,7 +53,7 @@ fn last_from(w: Sweep, j: u8) -> u8
 
 // An offset up to which single sweeps, one after the other, hand over from `j` on.
 fn linked_to(file: &[u8], at: usize, count: usize, j: u8) -> u8
-    requires { ⌜ at + 3 * count ≤ length (now file) ⌝ }
+    requires { ⌜ at + sweepSize * count ≤ length (now file) ⌝ }
     ensures { λ r. ⌜ Linked (sweepsAt (now (file .entry)) at count) j r ⌝ }
 {
     let mut end = j;
@@ -66,7 +67,7 @@ fn linked_to(file: &[u8], at: usize, count: usize, j: u8) -> u8
 
 // An offset up to which there are handovers from `j` on: `j` only where there is none at `j`.
 fn handed_to(file: &[u8], at: usize, count: usize, j: u8) -> u8
-    requires { ⌜ (at + 3 * count ≤ length (now file)) × (j < 255) ⌝ }
+    requires { ⌜ (at + sweepSize * count ≤ length (now file)) × (j < 255) ⌝ }
     ensures { λ r. ⌜ Linked (sweepsAt (now (file .entry)) at count) j r × (r ≤ j → handover (sweepsAt (now (file .entry)) at count) j ≡ false) ⌝ }
 {
     let end = linked_to(file, at, count, j);
@@ -81,7 +82,7 @@ fn handed_to(file: &[u8], at: usize, count: usize, j: u8) -> u8
 
 // There is a handover at each offset below `span`.
 fn all_handed_over(file: &[u8], at: usize, count: usize, span: u8) -> bool
-    requires { ⌜ at + 3 * count ≤ length (now file) ⌝ }
+    requires { ⌜ at + sweepSize * count ≤ length (now file) ⌝ }
     ensures { λ r. ⌜ r ≡ allBelow (handover (sweepsAt (now (file .entry)) at count)) span ⌝ }
 {
     let mut j: u8 = 0;
@@ -105,7 +106,7 @@ pub fn sweeps_pass(
     x: usize,
     y: usize,
 ) -> bool
-    requires { ⌜ first + 3 * count ≤ length (now file) ⌝ }
+    requires { ⌜ first + sweepSize * count ≤ length (now file) ⌝ }
     ensures { λ r. ⌜ r ≡ sweepsGood cells x y span (sweepsAt (now (file .entry)) first count) ⌝ }
 {
     if site_sweeps::sweeps_good(file, first, count, cells, span) {

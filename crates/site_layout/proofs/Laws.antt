@@ -8,7 +8,7 @@ use native.Mathlib.Omega.{arith}
 use lib.ListN.{length, getD, take, drop}
 use lib.Dec.{leb, eqb}
 use borrow.Author.Tests.{eqb-true, eqb-false, leb-true, leb-false, eq-eqb, ne-eqb}
-use Rattle.meaning.specs.Limits.{stateLimit}
+use Rattle.meaning.specs.Limits.{stateLimit, headSize}
 use Rattle.meaning.specs.Basics.{u16At}
 use Rattle.meaning.specs.Fields.{Field, noField, Fields, fields, complete, listed}
 use Rattle.meaning.specs.Site.{noState, headOf, laterOf, stateCount, headGood, isState, isMotion, motionsLaid, layoutGood, stateOf, motionOf, siteOf}
@@ -18,7 +18,7 @@ use Rattle.meaning.proofs.SiteLaws.{state-number}
 use Rattle.fields.specs.declared.Header.{Header}
 use Rattle.fields.specs.Places.{fieldsAt, fieldAt, Next, Whole}
 use Rattle.fields.proofs.Laws.{by-place, whole-at, at-next, room, listed-end, listed-next, value-length, field-tag, value-byte, value-u16, next-is, whole-listed, whole-length}
-use Rattle.site_layout.specs.Laid.{firstIs, headValues, motionLength, statePlace, Laid, StateValue}
+use Rattle.site_layout.specs.Laid.{firstIs, headValues, motionLength, headField, stateField, statePlace, Laid, StateValue}
 
 -- ---- the first field from a place on
 
@@ -54,24 +54,24 @@ module _ (file : List ℕ) (h : Header) (w : Whole file 0 h) where
   unfolding headGood
   head-tag d = simp (tag-here, ne-eqb (h .tag) 1 d)
 
-  pub head-length : (h .len ≡ 5 → ⊥) → headGood (headOf file) ≡ false
+  pub head-length : (h .len ≡ headSize → ⊥) → headGood (headOf file) ≡ false
   unfolding headGood
-  head-length d = simp (length-here, ne-eqb (h .len) 5 d, and-false)
+  head-length d = simp (length-here, ne-eqb (h .len) headSize d, and-false)
 
-  pub head-values : h .tag ≡ 1 → h .len ≡ 5 → headGood (headOf file) ≡ headValues file (h .start)
+  pub head-values : h .tag ≡ 1 → h .len ≡ headSize → headGood (headOf file) ≡ headValues file (h .start)
   unfolding headGood headValues
   head-values p q =
       let n = w .len in
       let t : fieldAt file 0 .tag ≡ 1 = field-tag file 0 ∙ sym (w .tag) ∙ p in
-      let l : length (fieldAt file 0 .value) ≡ 5 = whole-length file 0 h w ∙ q in
+      let l : length (fieldAt file 0 .value) ≡ headSize = whole-length file 0 h w ∙ q in
       simp (head-is, t, l, w .start, value-u16 file 0 0 (omega arith), value-byte file 0 2 (omega arith), value-u16 file 0 3 (omega arith))
 
 -- a head that is good
 pub record HeadHere (file : List ℕ) : Type 0 where
-  pub long : 8 ≤ length file
-  pub five : u16At file 1 ≡ 5
-  pub whole : complete (fieldsAt file 8) ≡ true
-  pub later : laterOf file ≡ listed (fieldsAt file 8)
+  pub long : headField ≤ length file
+  pub size : u16At file 1 ≡ headSize
+  pub whole : complete (fieldsAt file headField) ≡ true
+  pub later : laterOf file ≡ listed (fieldsAt file headField)
   pub horizon : siteOf file .horizon ≡ u16At file 3
   pub cells : siteOf file .cells ≡ getD file 5 0
   pub count : stateCount file ≡ u16At file 6
@@ -82,22 +82,22 @@ head-here file w g =
     by-place file 0
     (λ p i. absurd (true≢false (sym g ∙ head-none file (listed-end file 0 p))))
     (λ p i. absurd (true≢false (sym g ∙ head-none file (ap listed p))))
-    (λ r. go r (eqb (u16At file 1) 5) refl)
+    (λ r. go r (eqb (u16At file 1) headSize) refl)
   where
-    go : 0 + 3 + u16At file 1 ≤ length file → (b : Bool) → eqb (u16At file 1) 5 ≡ b → HeadHere file
+    go : 0 + 3 + u16At file 1 ≤ length file → (b : Bool) → eqb (u16At file 1) headSize ≡ b → HeadHere file
     go r false q =
         let h : Header = record { tag = getD file 0 0; start = 3; len = u16At file 1; next = 3 + u16At file 1 } in
         let x : Whole file 0 h = record { tag = refl; start = refl; len = refl; next = refl; inside = r; fields = at-next file 0 _ refl r } in
-        absurd (true≢false (sym g ∙ head-length file h x (eqb-false (u16At file 1) 5 q)))
+        absurd (true≢false (sym g ∙ head-length file h x (eqb-false (u16At file 1) headSize q)))
     go r true q =
-        let e = eqb-true (u16At file 1) 5 q in
+        let e = eqb-true (u16At file 1) headSize q in
         let k : 0 < length file = omega arith in
-        let x = next-is file 0 _ 8 (ap complete (whole-at file) ∙ w) k refl (omega arith) in
+        let x = next-is file 0 _ headField (ap complete (whole-at file) ∙ w) k refl (omega arith) in
         let z = ap listed (sym (whole-at file)) ∙ x .list in
         let h = headed file _ (x .list) in
         record {
           long = omega arith;
-          five = e;
+          size = e;
           whole = x .whole;
           later = ap (drop 1) z;
           horizon = rw h (value-u16 file 0 0 (omega arith));
@@ -107,8 +107,8 @@ head-here file w g =
 
 -- its values, where the reader says that they start
 pub record HeadRead (file : List ℕ) (h : Header) : Type 0 where
-  pub inside : h .start + 5 ≤ length file
-  pub next : h .next ≡ 8
+  pub inside : h .start + headSize ≤ length file
+  pub next : h .next ≡ headField
   pub horizon : u16At file (h .start) ≡ siteOf file .horizon
   pub cells : getD file (h .start + 2) 0 ≡ siteOf file .cells
   pub count : u16At file (h .start + 3) ≡ stateCount file
@@ -118,7 +118,7 @@ head-read file x h w =
     let s : h .start ≡ 3 = w .start in
     record {
       inside = omega (arith, x .long);
-      next = omega (arith, x .five, w .len, w .next);
+      next = omega (arith, x .size, w .len, w .next);
       horizon = ap (u16At file) s ∙ sym (x .horizon);
       cells = ap (λ (k : ℕ). getD file (k + 2) 0) s ∙ sym (x .cells);
       count = ap (λ (k : ℕ). u16At file (k + 3)) s ∙ sym (x .count);
@@ -190,12 +190,12 @@ layout-next file at r n p e x = ap (layoutGood n) (x .list) ∙ layout-hit _ _ n
 
 -- ---- the states
 
--- a state takes five bytes
+-- a state whose field starts at the place at
 pub record StateHere (file : List ℕ) (at n : ℕ) : Type 0 where
-  pub inside : at + 5 ≤ length file
-  pub whole : complete (fieldsAt file (at + 5)) ≡ true
-  pub list : listed (fieldsAt file at) ≡ fieldAt file at ∷ listed (fieldsAt file (at + 5))
-  pub layout : layoutGood n (listed (fieldsAt file at)) ≡ layoutGood (n - 1) (listed (fieldsAt file (at + 5)))
+  pub inside : at + stateField ≤ length file
+  pub whole : complete (fieldsAt file (at + stateField)) ≡ true
+  pub list : listed (fieldsAt file at) ≡ fieldAt file at ∷ listed (fieldsAt file (at + stateField))
+  pub layout : layoutGood n (listed (fieldsAt file at)) ≡ layoutGood (n - 1) (listed (fieldsAt file (at + stateField)))
   pub cell : stateOf (fieldAt file at) .cell ≡ getD file (at + 3) 0
   pub speed : stateOf (fieldAt file at) .speed ≡ getD file (at + 4) 0
 
@@ -208,30 +208,30 @@ state-here file at n l w e =
     let r = room file at _ w p refl in
     let i = sym (first-of isState _ _ _ (listed-next file at _ refl r)) ∙ f in
     let z = sym (value-length file at _ refl r) ∙ state-parts (fieldAt file at) i .1 in
-    let x = next-is file at _ (at + 5) w p refl (omega arith) in
+    let x = next-is file at _ (at + stateField) w p refl (omega arith) in
     let a : at + 3 + 0 ≡ at + 3 = omega arith in
     let b : at + 3 + 1 ≡ at + 4 = omega arith in
     record {
       inside = x .inside;
       whole = x .whole;
       list = x .list;
-      layout = layout-next file at (at + 5) n l f x;
+      layout = layout-next file at (at + stateField) n l f x;
       cell = value-byte file at 0 (omega arith) ∙ ap (λ (k : ℕ). getD file k 0) a;
       speed = value-byte file at 1 (omega arith) ∙ ap (λ (k : ℕ). getD file k 0) b;
     }
 
 -- the state i of n from the place at on
 pub record StateAt (file : List ℕ) (at n i : ℕ) : Type 0 where
-  pub inside : at + 5 * i + 5 ≤ length file
-  pub cell : getD (map stateOf (take n (listed (fieldsAt file at)))) i noState .cell ≡ getD file (at + 5 * i + 3) 0
-  pub speed : getD (map stateOf (take n (listed (fieldsAt file at)))) i noState .speed ≡ getD file (at + 5 * i + 4) 0
+  pub inside : at + stateField * i + stateField ≤ length file
+  pub cell : getD (map stateOf (take n (listed (fieldsAt file at)))) i noState .cell ≡ getD file (at + stateField * i + 3) 0
+  pub speed : getD (map stateOf (take n (listed (fieldsAt file at)))) i noState .speed ≡ getD file (at + stateField * i + 4) 0
 
 state-at : (file : List ℕ) (i at n : ℕ) → i < n → complete (fieldsAt file at) ≡ true → layoutGood n (listed (fieldsAt file at)) ≡ true → StateAt file at n i
 state-at file i at zero p w e = absurd (omega arith)
 state-at file zero at (suc n) p w e =
     let x = state-here file at (suc n) (omega arith) w e in
-    let a : at + 5 * 0 + 3 ≡ at + 3 = omega arith in
-    let b : at + 5 * 0 + 4 ≡ at + 4 = omega arith in
+    let a : at + stateField * 0 + 3 ≡ at + 3 = omega arith in
+    let b : at + stateField * 0 + 4 ≡ at + 4 = omega arith in
     record {
       inside = let y = x .inside in omega arith;
       cell = rw (x .list, a) (x .cell);
@@ -240,10 +240,10 @@ state-at file zero at (suc n) p w e =
 state-at file (suc i) at (suc n) p w e =
     let x = state-here file at (suc n) (omega arith) w e in
     let m : suc n - 1 ≡ n = omega arith in
-    let l : layoutGood n (listed (fieldsAt file (at + 5))) ≡ true = rw (← m) (sym (x .layout) ∙ e) in
-    let y = state-at file i (at + 5) n (omega arith) (x .whole) l in
-    let a : at + 5 * suc i + 3 ≡ at + 5 + 5 * i + 3 = omega arith in
-    let b : at + 5 * suc i + 4 ≡ at + 5 + 5 * i + 4 = omega arith in
+    let l : layoutGood n (listed (fieldsAt file (at + stateField))) ≡ true = rw (← m) (sym (x .layout) ∙ e) in
+    let y = state-at file i (at + stateField) n (omega arith) (x .whole) l in
+    let a : at + stateField * suc i + 3 ≡ at + stateField + stateField * i + 3 = omega arith in
+    let b : at + stateField * suc i + 4 ≡ at + stateField + stateField * i + 4 = omega arith in
     record {
       inside = let z = y .inside in omega arith;
       cell = rw (x .list, a) (y .cell);
@@ -252,14 +252,14 @@ state-at file (suc i) at (suc n) p w e =
 
 -- what follows n states
 pub record AfterStates (file : List ℕ) (at n : ℕ) : Type 0 where
-  pub inside : at + 5 * n ≤ length file
-  pub whole : complete (fieldsAt file (at + 5 * n)) ≡ true
-  pub list : drop n (listed (fieldsAt file at)) ≡ listed (fieldsAt file (at + 5 * n))
-  pub motions : motionsLaid (listed (fieldsAt file (at + 5 * n))) ≡ true
+  pub inside : at + stateField * n ≤ length file
+  pub whole : complete (fieldsAt file (at + stateField * n)) ≡ true
+  pub list : drop n (listed (fieldsAt file at)) ≡ listed (fieldsAt file (at + stateField * n))
+  pub motions : motionsLaid (listed (fieldsAt file (at + stateField * n))) ≡ true
 
 after-states : (file : List ℕ) (n at : ℕ) → at ≤ length file → complete (fieldsAt file at) ≡ true → layoutGood n (listed (fieldsAt file at)) ≡ true → AfterStates file at n
 after-states file zero at i w e =
-    let a : at + 5 * 0 ≡ at = omega arith in
+    let a : at + stateField * 0 ≡ at = omega arith in
     record {
       inside = omega arith;
       whole = rw a w;
@@ -269,9 +269,9 @@ after-states file zero at i w e =
 after-states file (suc n) at i w e =
     let x = state-here file at (suc n) (omega arith) w e in
     let m : suc n - 1 ≡ n = omega arith in
-    let l : layoutGood n (listed (fieldsAt file (at + 5))) ≡ true = rw (← m) (sym (x .layout) ∙ e) in
-    let y = after-states file n (at + 5) (x .inside) (x .whole) l in
-    let a : at + 5 * suc n ≡ at + 5 + 5 * n = omega arith in
+    let l : layoutGood n (listed (fieldsAt file (at + stateField))) ≡ true = rw (← m) (sym (x .layout) ∙ e) in
+    let y = after-states file n (at + stateField) (x .inside) (x .whole) l in
+    let a : at + stateField * suc n ≡ at + stateField + stateField * n = omega arith in
     record {
       inside = let z = y .inside in omega arith;
       whole = rw a (y .whole);
@@ -288,13 +288,13 @@ module _ (file : List ℕ) (laid : Laid file) where
   unfolding stateCount
   states-few = head-good (headOf file) (laid .head) .states-range .1
 
-  laid-layout : layoutGood (stateCount file) (listed (fieldsAt file 8)) ≡ true
+  laid-layout : layoutGood (stateCount file) (listed (fieldsAt file headField)) ≡ true
   laid-layout = rw (laid-head .later) at (laid .layout)
 
-  pub laid-after : AfterStates file 8 (stateCount file)
-  laid-after = after-states file (stateCount file) 8 (laid-head .long) (laid-head .whole) laid-layout
+  pub laid-after : AfterStates file headField (stateCount file)
+  laid-after = after-states file (stateCount file) headField (laid-head .long) (laid-head .whole) laid-layout
 
-  laid-states : siteOf file .states ≡ map stateOf (take (stateCount file) (listed (fieldsAt file 8)))
+  laid-states : siteOf file .states ≡ map stateOf (take (stateCount file) (listed (fieldsAt file headField)))
   unfolding siteOf
   laid-states = rw (laid-head .later)
 
@@ -305,8 +305,8 @@ module _ (file : List ℕ) (laid : Laid file) where
   pub laid-count : length (siteOf file .states) ≡ stateCount file
   laid-count = state-number file (laid .layout)
 
-  laid-state : (i : ℕ) → i < length (siteOf file .states) → StateAt file 8 (stateCount file) i
-  laid-state i p = let e = laid-count in state-at file i 8 (stateCount file) (omega arith) (laid-head .whole) laid-layout
+  laid-state : (i : ℕ) → i < length (siteOf file .states) → StateAt file headField (stateCount file) i
+  laid-state i p = let e = laid-count in state-at file i headField (stateCount file) (omega arith) (laid-head .whole) laid-layout
 
   pub laid-small : (i : ℕ) → i < length (siteOf file .states) → i < 65536
   laid-small i p = omega (arith, laid-count, states-few)

@@ -25,9 +25,16 @@ headValues file at = within 1 horizonLimit (u16At file at) && within 1 cellLimit
 unfoldable pub motionLength : ℕ → Bool
 motionLength n = within 1 sweepLimit (sweepCount n) && eqb n (motionSize + sweepSize * sweepCount n)
 
+-- the bytes of the head's field, and of a state's
+abbrev pub headField : ℕ
+headField = fieldHeader + headSize
+
+abbrev pub stateField : ℕ
+stateField = fieldHeader + stateSize
+
 -- where the state i starts, or with all states before it, the first motion
 abbrev pub statePlace : ℕ → ℕ
-statePlace i = fieldHeader + headSize + (fieldHeader + stateSize) * i
+statePlace i = headField + stateField * i
 
 -- a file that none of 2 to 4 refuses
 pub record Laid (file : List ℕ) : Type 0 where

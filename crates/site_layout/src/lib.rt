@@ -4,6 +4,7 @@ ghost use mathlib.Core.Path.{_≡_};
 ghost use mathlib.Core.Bool.{true};
 ghost use Prim.Native.Nat.{_+_, _≤_};
 ghost use lib.ListN.{length};
+ghost use Rattle.meaning.specs.Limits.{headSize};
 ghost use Rattle.meaning.specs.Basics.{all, within};
 ghost use Rattle.meaning.specs.Fields.{fields, complete, listed};
 ghost use Rattle.meaning.specs.Site.{headOf, headGood, isState, isMotion, sweepCount, motionsLaid, layoutGood};
@@ -46,7 +47,7 @@ fn in_range(n: usize, lo: usize, hi: usize) -> bool
 
 // The head's values, which start at `at`.
 fn head_values(file: &[u8], at: usize) -> bool
-    requires { ⌜ at + 5 ≤ length (now file) ⌝ }
+    requires { ⌜ at + headSize ≤ length (now file) ⌝ }
     ensures { λ r. ⌜ r ≡ headValues (now (file .entry)) at ⌝ }
 {
     if !in_range(fields::number_at(file, at), 1, HORIZON_LIMIT) {

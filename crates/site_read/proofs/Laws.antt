@@ -9,7 +9,7 @@ use lib.ListN.{length, getD, take, drop, set, length-drop, length-map}
 use lib.Seq.{drop-drop, getD-drop, drop-at, take-add, length-take-le, getD-set-same, getD-set-other}
 use lib.Dec.{leb, ltb, eqb}
 use borrow.Author.Tests.{leb-true, eqb-true, eqb-false, ltb-true, ltb-false}
-use Rattle.meaning.specs.Limits.{motionLimit, sweepLimit}
+use Rattle.meaning.specs.Limits.{motionLimit, sweepLimit, motionSize, sweepSize}
 use Rattle.meaning.specs.Basics.{all, u16At}
 use Rattle.meaning.specs.Answers.{accepted}
 use Rattle.meaning.specs.Fields.{listed}
@@ -36,11 +36,11 @@ read-laid file site e = let p = read-passes file site e in record { whole = p .w
 pub record MotionHere (file : List ℕ) (at n : ℕ) : Type 0 where
   pub some-sweeps : 1 ≤ sweepCount n
   pub few-sweeps : sweepCount n ≤ sweepLimit
-  pub size : n ≡ 5 + 3 * sweepCount n
+  pub size : n ≡ motionSize + sweepSize * sweepCount n
   pub from : motionOf (fieldAt file at) .from ≡ u16At file (at + 3)
   pub to : motionOf (fieldAt file at) .to ≡ u16At file (at + 3 + 2)
   pub span : motionOf (fieldAt file at) .span ≡ getD file (at + 3 + 4) 0
-  pub sweeps : motionOf (fieldAt file at) .sweeps ≡ sweepsAt file (at + 3 + 5) (sweepCount n)
+  pub sweeps : motionOf (fieldAt file at) .sweeps ≡ sweepsAt file (at + 3 + motionSize) (sweepCount n)
 
 drop-take : (i m : ℕ) (l : List ℕ) → i ≤ length l → drop i (take (i + m) l) ≡ take m (drop i l)
 drop-take i m l p = ap (drop i) (take-add i m l) ∙ drop-at (take i l) _ i (length-take-le i l p)
@@ -49,14 +49,14 @@ value-is : (file : List ℕ) (at n : ℕ) → n ≡ u16At file (at + 1) → fiel
 unfolding fieldAt
 value-is file at n h = rw h
 
-motion-sweeps : (file : List ℕ) (at n k : ℕ) → n ≡ u16At file (at + 1) → at + 3 + n ≤ length file → n ≡ 5 + 3 * k
-    → motionOf (fieldAt file at) .sweeps ≡ sweepsAt file (at + 3 + 5) k
+motion-sweeps : (file : List ℕ) (at n k : ℕ) → n ≡ u16At file (at + 1) → at + 3 + n ≤ length file → n ≡ motionSize + sweepSize * k
+    → motionOf (fieldAt file at) .sweeps ≡ sweepsAt file (at + 3 + motionSize) k
 unfolding motionOf sweepsAt
 motion-sweeps file at n k h q e =
     let d = length-drop (at + 3) file in
-    ap sweepsOf (ap (drop 5) (value-is file at n h ∙ ap (λ (j : ℕ). take j (drop (at + 3) file)) e)
-    ∙ drop-take 5 (3 * k) (drop (at + 3) file) (omega arith)
-    ∙ rw (drop-drop 5 (at + 3) file))
+    ap sweepsOf (ap (drop motionSize) (value-is file at n h ∙ ap (λ (j : ℕ). take j (drop (at + 3) file)) e)
+    ∙ drop-take motionSize (sweepSize * k) (drop (at + 3) file) (omega arith)
+    ∙ rw (drop-drop motionSize (at + 3) file))
 
 motion-here : (file : List ℕ) (at n : ℕ) → n ≡ u16At file (at + 1) → at + 3 + n ≤ length file → isMotion (fieldAt file at) ≡ true → MotionHere file at n
 unfolding motionOf
@@ -75,11 +75,11 @@ motion-here file at n h q e =
 
 -- the same, by what the reader says of its field
 pub record MotionRead (file : List ℕ) (at : ℕ) (h : Header) : Type 0 where
-  pub inside : h .start + 5 + 3 * sweepCount (h .len) ≤ length file
+  pub inside : h .start + motionSize + sweepSize * sweepCount (h .len) ≤ length file
   pub from : motionOf (fieldAt file at) .from ≡ u16At file (h .start)
   pub to : motionOf (fieldAt file at) .to ≡ u16At file (h .start + 2)
   pub span : motionOf (fieldAt file at) .span ≡ getD file (h .start + 4) 0
-  pub sweeps : motionOf (fieldAt file at) .sweeps ≡ sweepsAt file (h .start + 5) (sweepCount (h .len))
+  pub sweeps : motionOf (fieldAt file at) .sweeps ≡ sweepsAt file (h .start + motionSize) (sweepCount (h .len))
 
 pub motion-read : (file : List ℕ) (at : ℕ) (h : Header) → Whole file at h → isMotion (fieldAt file at) ≡ true → MotionRead file at h
 motion-read file at h w e =
@@ -93,7 +93,7 @@ motion-read file at h w e =
       from = x .from ∙ ap (u16At file) s;
       to = x .to ∙ ap (λ (k : ℕ). u16At file (k + 2)) s;
       span = x .span ∙ ap (λ (k : ℕ). getD file (k + 4) 0) s;
-      sweeps = x .sweeps ∙ ap (λ (k : ℕ). sweepsAt file (k + 5) (sweepCount (h .len))) s;
+      sweeps = x .sweeps ∙ ap (λ (k : ℕ). sweepsAt file (k + motionSize) (sweepCount (h .len))) s;
     }
 
 -- ---- the motions from a place on

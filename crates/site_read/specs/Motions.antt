@@ -5,6 +5,7 @@ use mathlib.Core.Path.{_≡_}
 use mathlib.Core.List.{List}
 use mathlib.Core.Bool.{true}
 use lib.ListN.{length, getD}
+use Rattle.meaning.specs.Limits.{sweepSize}
 use Rattle.meaning.specs.Basics.{all}
 use Rattle.meaning.specs.Fields.{complete, listed}
 use Rattle.meaning.specs.Site.{Motion, isMotion, motionOf, motionAt, siteOf}
@@ -18,7 +19,7 @@ pub record MotionIs (file : List ℕ) (m : Motion) (r : ReadMotion.Motion) : Typ
   pub to : r .to ≡ m .to
   pub span : r .span ≡ m .span
   pub sweeps : sweepsAt file (r .first) (r .count) ≡ m .sweeps
-  pub inside : r .first + 3 * r .count ≤ length file
+  pub inside : r .first + sweepSize * r .count ≤ length file
 
 -- from the place start on there are motions, each laid out well
 pub record Motions (file : List ℕ) (start : ℕ) : Type 0 where

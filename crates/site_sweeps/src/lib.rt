@@ -2,6 +2,7 @@
 ghost use mathlib.Core.Path.{_≡_};
 ghost use Prim.Native.Nat.{_+_, _*_, _<_, _≤_};
 ghost use lib.ListN.{length};
+ghost use Rattle.meaning.specs.Limits.{sweepSize};
 ghost use Rattle.meaning.specs.Basics.{all};
 ghost use Rattle.meaning.specs.Site.{covers, uses, sweepGood};
 ghost use Rattle.site_sweeps.specs.Places.{sweepAt, sweepsAt, sweepOf, SweepIs};
@@ -18,8 +19,8 @@ pub struct Sweep {
 
 // The sweep `i` of those from `at` on.
 pub fn read_sweep(file: &[u8], at: usize, i: usize) -> Sweep
-    requires { ⌜ at + 3 * i + 2 < length (now file) ⌝ }
-    ensures { λ r. ⌜ SweepIs (sweepAt (now (file .entry)) (at + 3 * i)) r ⌝ }
+    requires { ⌜ at + sweepSize * i + 2 < length (now file) ⌝ }
+    ensures { λ r. ⌜ SweepIs (sweepAt (now (file .entry)) (at + sweepSize * i)) r ⌝ }
 {
     let p = at + SWEEP_SIZE * i;
     Sweep {
@@ -44,7 +45,7 @@ fn covers(w: Sweep, cell: usize, t: u8) -> bool
 
 // Some one of `count` sweeps from `at` on uses the cell at the offset `t`.
 pub fn used(file: &[u8], at: usize, count: usize, cell: usize, t: u8) -> bool
-    requires { ⌜ at + 3 * count ≤ length (now file) ⌝ }
+    requires { ⌜ at + sweepSize * count ≤ length (now file) ⌝ }
     ensures { λ r. ⌜ r ≡ uses (sweepsAt (now (file .entry)) at count) cell t ⌝ }
 {
     let mut i = 0;
@@ -72,7 +73,7 @@ fn sweep_good(w: Sweep, cells: usize, span: u8) -> bool
 
 // Each of `count` sweeps from `at` on does.
 pub fn sweeps_good(file: &[u8], at: usize, count: usize, cells: usize, span: u8) -> bool
-    requires { ⌜ at + 3 * count ≤ length (now file) ⌝ }
+    requires { ⌜ at + sweepSize * count ≤ length (now file) ⌝ }
     ensures { λ r. ⌜ r ≡ all (sweepGood cells span) (sweepsAt (now (file .entry)) at count) ⌝ }
 {
     let mut i = 0;

@@ -29,8 +29,8 @@ said c = accepted-layout _ _ (accepted c)
 abbrev arm : tie.After-length-of → tie.After-l
 arm c = c .before .before
 
-length-told : (c : tie.After-length-of) → c .length-of .result ≡ boardLength (siteOf (start (arm c) .args .file .now))
-length-told c = c .length-of .ensures ∙ ap (λ (l : Sizes). header + l .cells * (l .horizon + 1)) (said (arm c))
+length-is : (c : tie.After-length-of) → c .length-of .result ≡ boardLength (siteOf (start (arm c) .args .file .now))
+length-is c = c .length-of .ensures ∙ ap (λ (l : Sizes). header + l .cells * (l .horizon + 1)) (said (arm c))
 
 check-site-requires : tie.Need-check-site-requires
 check-site-requires c κs = search needs
@@ -46,13 +46,13 @@ length-of-requires c κs =
 
 returns : tie.Need-returns
 returns c =
-    size-stops _ _ _ (accepted (arm (c .before))) (λ e. c .if1 .taken (e ∙ sym (length-told (c .before))))
+    size-stops _ _ _ (accepted (arm (c .before))) (λ e. c .if1 .taken (e ∙ sym (length-is (c .before))))
 
 enum-known-n : tie.Need-enum-known-n
 enum-known-n c = search needs
 
 returns-2 : tie.Need-returns-2
-returns-2 c = size-passes _ _ _ (accepted (arm (c .before))) (c .if1 .left ∙ length-told (c .before))
+returns-2 c = size-passes _ _ _ (accepted (arm (c .before))) (c .if1 .left ∙ length-is (c .before))
 
 returns-3 : tie.Need-returns-3
 returns-3 c = site-stops _ _ _ (sym (c .before .n .given .1) ∙ c .before .before .before .check-site .ensures)

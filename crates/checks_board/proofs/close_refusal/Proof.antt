@@ -58,9 +58,9 @@ unfolding closeRefusals bytesView
 past-15 c site says m h = past-12 (at-12 c) site says m (miss _ _ _ _ (sym (c .before .at-last-edition .ensures) ∙ c .if4 .left) h)
 
 -- the test that run_free made is that of the run's pairs
-run-told : (c : tie.After-run-free) (site : Site) → let s = start (at-9 (at-10 (at-12 (c .before)))) in
+run-is : (c : tie.After-run-free) (site : Site) → let s = start (at-9 (at-10 (at-12 (c .before)))) in
     Has s site → c .run-free .result ≡ allFree (free site (s .args .board .now)) (runTo (s .args .cell) (s .args .first) (s .args .last))
-run-told c site says =
+run-is c site says =
     let at = at-10 (at-12 (c .before)) in
     let a = start (at-9 at) .args in
     c .run-free .ensures site (sym (horizon-of site says)) (named-cell site (a .cell) (a .first) (a .last) (named at site says))
@@ -105,11 +105,11 @@ run-free-requires c κs =
 
 returns-5 : tie.Need-returns-5
 unfolding closeRefusals bytesView
-returns-5 c = λ site says. past-15 (c .before .before) site says _ (hit 17 _ _ (negated (run-told (c .before) site says) (c .if5 .taken)))
+returns-5 c = λ site says. past-15 (c .before .before) site says _ (hit 17 _ _ (negated (run-is (c .before) site says) (c .if5 .taken)))
 
 returns-6 : tie.Need-returns-6
 unfolding closeRefusals bytesView
-returns-6 c = λ site says. past-15 (c .before .before) site says _ (miss _ _ _ _ (negated (run-told (c .before) site says) (c .if5 .left)) none-left)
+returns-6 c = λ site says. past-15 (c .before .before) site says _ (miss _ _ _ _ (negated (run-is (c .before) site says) (c .if5 .left)) none-left)
 
 pub close-refusal-spec : {M : Type 1} → statement M
 close-refusal-spec =

@@ -29,9 +29,9 @@ list s =
     fromNumber 15 (lightRefusals site (bytesView site (s .args .board .now)) (s .args .light .now))
 
 -- the test on the editions is that of the light's and the board's
-other-told : (c : tie.After-read-edition)
+other-is : (c : tie.After-read-edition)
     → not (eqb (start c .args .wanted) (c .read-edition .result)) ≡ not (eqb (lightOf (start c .args .light .now) .edition) (edition (start c .args .board .now)))
-other-told c = ap₂ (λ (m n : ℕ). not (eqb m n)) (start c .pre .2) (c .read-edition .ensures)
+other-is c = ap₂ (λ (m n : ℕ). not (eqb m n)) (start c .pre .2) (c .read-edition .ensures)
 
 past-15 : (c : tie.Else1) → Past 16 (list (start (c .before)))
 unfolding lightRefusals bytesView
@@ -39,12 +39,12 @@ past-15 c m h = miss _ _ _ _ (sym (c .before .before .at-last-edition .ensures) 
 
 past-16 : (c : tie.Else2) → Past 17 (list (start (c .before .before)))
 unfolding lightRefusals bytesView
-past-16 c m h = past-15 (c .before) m (miss _ _ _ _ (sym (other-told (c .before .before)) ∙ c .if2 .left) h)
+past-16 c m h = past-15 (c .before) m (miss _ _ _ _ (sym (other-is (c .before .before)) ∙ c .if2 .left) h)
 
 -- the test that light_valid made is that of the light's plan on the board
-valid-told : (c : tie.After-light-valid) → let s = start (c .before .before .before .before .before) in
+valid-is : (c : tie.After-light-valid) → let s = start (c .before .before .before .before .before) in
     c .light-valid .result ≡ lightValid (siteOf (s .args .file .now)) (free (siteOf (s .args .file .now)) (s .args .board .now)) (lightOf (s .args .light .now))
-valid-told c = c .light-valid .ensures
+valid-is c = c .light-valid .ensures
 
 -- ---- the needs
 
@@ -60,7 +60,7 @@ returns c = hit 15 _ _ (sym (c .before .before .at-last-edition .ensures) ∙ c 
 
 returns-2 : tie.Need-returns-2
 unfolding lightRefusals bytesView
-returns-2 c = past-15 (c .before) _ (hit 16 _ _ (sym (other-told (c .before .before)) ∙ c .if2 .taken))
+returns-2 c = past-15 (c .before) _ (hit 16 _ _ (sym (other-is (c .before .before)) ∙ c .if2 .taken))
 
 motion-index-requires : tie.Need-motion-index-requires
 motion-index-requires c κs = ready-index (start (c .before .before) .pre .0)
@@ -72,11 +72,11 @@ light-valid-requires c κs =
 
 returns-3 : tie.Need-returns-3
 unfolding lightRefusals bytesView
-returns-3 c = past-16 (c .before .before .before .before) _ (hit 17 _ _ (negated (valid-told (c .before)) (c .if3 .taken)))
+returns-3 c = past-16 (c .before .before .before .before) _ (hit 17 _ _ (negated (valid-is (c .before)) (c .if3 .taken)))
 
 returns-4 : tie.Need-returns-4
 unfolding lightRefusals bytesView
-returns-4 c = past-16 (c .before .before .before .before) _ (miss _ _ _ _ (negated (valid-told (c .before)) (c .if3 .left)) none-left)
+returns-4 c = past-16 (c .before .before .before .before) _ (miss _ _ _ _ (negated (valid-is (c .before)) (c .if3 .left)) none-left)
 
 pub edition-refusal-spec : {M : Type 1} → statement M
 edition-refusal-spec =

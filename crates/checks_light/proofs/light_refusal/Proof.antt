@@ -52,22 +52,22 @@ head-tug c = ap (λ (h : Head). h .tug) (c .read-head .ensures)
 head-goal : (c : tie.After-read-head) → c .read-head .result .goal ≡ the-light (c .before) .goal
 head-goal c = ap (λ (h : Head). h .goal) (c .read-head .ensures)
 
-tug-told : (c : tie.After-is-tug) → c .is-tug .result ≡ isTug (the-light (c .before .before) .tug)
-tug-told c = c .is-tug .ensures ∙ ap isTug (head-tug (c .before))
+tug-is : (c : tie.After-is-tug) → c .is-tug .result ≡ isTug (the-light (c .before .before) .tug)
+tug-is c = c .is-tug .ensures ∙ ap isTug (head-tug (c .before))
 
-named-told : (c : tie.After-light-named) → let s = start (lit-9 (c .before)) in
+named-is : (c : tie.After-light-named) → let s = start (lit-9 (c .before)) in
     c .light-named .result ≡ lightNamed (siteOf (s .args .file .now)) (lightOf (s .args .light .now))
-named-told c = c .light-named .ensures _ (start (lit-9 (c .before)) .pre .sizes)
+named-is c = c .light-named .ensures _ (start (lit-9 (c .before)) .pre .sizes)
 
-speed-told : (c : tie.After-state-speed) → let at = lit-10 (c .before .before) in
+speed-is : (c : tie.After-state-speed) → let at = lit-10 (c .before .before) in
     c .state-speed .result ≡ stateAt (siteOf (start at .args .file .now)) (the-light at .goal) .speed
-speed-told c =
+speed-is c =
     let at = lit-10 (c .before .before) in
     c .state-speed .ensures ∙ ap (λ (g : ℕ). stateAt (siteOf (start at .args .file .now)) g .speed) (head-goal (c .before .before .before .before .before .before))
 
-stands-told : (c : tie.After-holder-stands) → let at = lit-11 (c .before) in
+stands-is : (c : tie.After-holder-stands) → let at = lit-11 (c .before) in
     c .holder-stands .result ≡ stands (start at .args .board .now) (the-light at .tug)
-stands-told c =
+stands-is c =
     let at = lit-11 (c .before) in
     c .holder-stands .ensures ∙ ap (stands (start at .args .board .now)) (head-tug (c .before .before .before .before .before .before .before .before))
 
@@ -79,19 +79,19 @@ past-8 c m h = miss _ _ _ _ (ap not (is-lit c)) h
 
 past-9 : (c : tie.Else2) → Past 10 (list (lit-9 c))
 unfolding lightRefusals
-past-9 c m h = past-8 (lit-9 c) m (miss _ _ _ _ (negated (tug-told (c .before)) (c .if2 .left)) h)
+past-9 c m h = past-8 (lit-9 c) m (miss _ _ _ _ (negated (tug-is (c .before)) (c .if2 .left)) h)
 
 past-10 : (c : tie.Else3) → Past 11 (list (lit-10 c))
 unfolding lightRefusals
-past-10 c m h = past-9 (c .before .before) m (miss _ _ _ _ (negated (named-told (c .before)) (c .if3 .left)) h)
+past-10 c m h = past-9 (c .before .before) m (miss _ _ _ _ (negated (named-is (c .before)) (c .if3 .left)) h)
 
 past-11 : (c : tie.Else4) → Past 12 (list (lit-11 c))
 unfolding lightRefusals
-past-11 c m h = past-10 (c .before .before .before) m (miss _ _ _ _ (ap not (eq-eqb _ _ (sym (speed-told (c .before)) ∙ c .if4 .left))) h)
+past-11 c m h = past-10 (c .before .before .before) m (miss _ _ _ _ (ap not (eq-eqb _ _ (sym (speed-is (c .before)) ∙ c .if4 .left))) h)
 
 past-12 : (c : tie.Else5) → Past 15 (list (lit-11 (c .before .before)))
 unfolding lightRefusals bytesView
-past-12 c m h = past-11 (c .before .before) m (miss _ _ _ _ (sym (stands-told (c .before)) ∙ c .if5 .left) h)
+past-12 c m h = past-11 (c .before .before) m (miss _ _ _ _ (sym (stands-is (c .before)) ∙ c .if5 .left) h)
 
 -- ---- the needs
 
@@ -110,14 +110,14 @@ is-tug-requires c κs = search needs
 
 returns-2 : tie.Need-returns-2
 unfolding lightRefusals
-returns-2 c = past-8 (c .before .before .before) _ (hit 9 _ _ (negated (tug-told (c .before)) (c .if2 .taken)))
+returns-2 c = past-8 (c .before .before .before) _ (hit 9 _ _ (negated (tug-is (c .before)) (c .if2 .taken)))
 
 light-named-requires : tie.Need-light-named-requires
 light-named-requires c κs = is-lit (lit-9 c)
 
 returns-3 : tie.Need-returns-3
 unfolding lightRefusals
-returns-3 c = past-9 (c .before .before) _ (hit 10 _ _ (negated (named-told (c .before)) (c .if3 .taken)))
+returns-3 c = past-9 (c .before .before) _ (hit 10 _ _ (negated (named-is (c .before)) (c .if3 .taken)))
 
 cast-state-speed : tie.Need-cast-state-speed
 cast-state-speed c = search needs
@@ -125,13 +125,13 @@ cast-state-speed c = search needs
 state-speed-requires : tie.Need-state-speed-requires
 state-speed-requires c κs =
     let at = start (lit-10 (c .before)) in
-    let named = sym (named-told (c .before .before)) ∙ not-false _ (c .before .if3 .left) in
+    let named = sym (named-is (c .before .before)) ∙ not-false _ (c .before .if3 .left) in
     let below = goal-below (siteOf (at .args .file .now)) (lightOf (at .args .light .now)) named in
     (ready-index (at .pre) .1, omega (arith, below, head-goal (c .before .before .before .before .before)))
 
 returns-4 : tie.Need-returns-4
 unfolding lightRefusals
-returns-4 c = past-10 (c .before .before .before) _ (hit 11 _ _ (ap not (ne-eqb _ _ (λ e. c .if4 .taken (speed-told (c .before) ∙ e)))))
+returns-4 c = past-10 (c .before .before .before) _ (hit 11 _ _ (ap not (ne-eqb _ _ (λ e. c .if4 .taken (speed-is (c .before) ∙ e)))))
 
 holder-stands-requires : tie.Need-holder-stands-requires
 holder-stands-requires c κs =
@@ -140,7 +140,7 @@ holder-stands-requires c κs =
 
 returns-5 : tie.Need-returns-5
 unfolding lightRefusals bytesView
-returns-5 c = past-11 (c .before .before) _ (hit 12 _ _ (sym (stands-told (c .before)) ∙ c .if5 .taken))
+returns-5 c = past-11 (c .before .before) _ (hit 12 _ _ (sym (stands-is (c .before)) ∙ c .if5 .taken))
 
 edition-refusal-requires : tie.Need-edition-refusal-requires
 edition-refusal-requires c κs =

@@ -60,9 +60,9 @@ unfolding routeRefusals bytesView
 past-12 c areas m h = past-11 (at-11 c) areas m (miss _ _ _ _ (sym (c .before .holder-stands .ensures) ∙ c .if4 .left) h)
 
 -- the test that room_enough made
-room-told : (c : tie.After-room-enough) (areas : Room) → let a = start (at-9 (at-10 (at-11 (c .before)))) .args in
+room-is : (c : tie.After-room-enough) (areas : Room) → let a = start (at-9 (at-10 (at-11 (c .before)))) .args in
     areas .out ≡ a .out-len → areas .words ≡ a .work-len → c .room-enough .result ≡ roomEnough (siteOf (a .file .now)) areas
-room-told c areas out words =
+room-is c areas out words =
     let s = start (at-9 (at-10 (at-11 (c .before)))) in
     c .room-enough .ensures (siteOf (s .args .file .now)) areas (s .pre .sizes) out words
 
@@ -107,11 +107,11 @@ room-enough-requires c κs = ready-small (start (at-9 (at-10 (at-11 c))) .pre)
 
 returns-5 : tie.Need-returns-5
 unfolding routeRefusals roomEnough
-returns-5 c = λ areas out words. past-12 (c .before .before) areas _ (hit 14 _ [] (negated (room-told (c .before) areas out words) (c .if5 .taken)))
+returns-5 c = λ areas out words. past-12 (c .before .before) areas _ (hit 14 _ [] (negated (room-is (c .before) areas out words) (c .if5 .taken)))
 
 returns-6 : tie.Need-returns-6
 unfolding routeRefusals roomEnough
-returns-6 c = λ areas out words. past-12 (c .before .before) areas _ (miss _ 14 _ [] (negated (room-told (c .before) areas out words) (c .if5 .left)) none-left)
+returns-6 c = λ areas out words. past-12 (c .before .before) areas _ (miss _ 14 _ [] (negated (room-is (c .before) areas out words) (c .if5 .left)) none-left)
 
 pub route-refusal-spec : {M : Type 1} → statement M
 route-refusal-spec =

@@ -1,5 +1,6 @@
 -- `plan_mark::mark_sweeps` meets its contract. The invariant: marking the sweeps from i on leaves the board as marking all does.
 -- Assumes nothing.
+use Rattle.meaning.specs.Limits.{sweepSize}
 use Rattle.meaning.specs.Board.{mark, runTo}
 use Prim.Native.Nat.{_+_, _*_, _-_}
 use mathlib.Core.Path.{_≡_, refl, sym, ap, _∙_}
@@ -18,7 +19,7 @@ use Rattle.plan_mark.proofs.mark_sweeps.Tie as tie
 abbrev Inv-loop : tie.InvT-loop
 Inv-loop file board₀ layout t tug place count i₀ board i =
     (length board ≡ length board₀)
-    × (mark (siteOf file) tug (sweptPairs (sweepsAt file (place + 3 * i) (count - i)) (t .0)) board
+    × (mark (siteOf file) tug (sweptPairs (sweepsAt file (place + sweepSize * i) (count - i)) (t .0)) board
     ≡ mark (siteOf file) tug (sweptPairs (sweepsAt file place count) (t .0)) board₀)
 
 abbrev μ-loop : tie.MeasureT-loop

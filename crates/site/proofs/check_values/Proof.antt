@@ -51,8 +51,8 @@ motions-good-requires c κs =
 abbrev start : tie.After-motions-good → tie.Start
 start c = c .before .before .before .before .before
 
-states-told : (c : tie.After-motions-good) → let f = start c .args .file .now in c .before .before .states-good .result ≡ all (cellGood (siteOf f .cells)) (siteOf f .states)
-states-told c =
+states-are : (c : tie.After-motions-good) → let f = start c .args .file .now in c .before .before .states-good .result ≡ all (cellGood (siteOf f .cells)) (siteOf f .states)
+states-are c =
     let f = start c .args .file .now in
     c .before .before .states-good .ensures ∙ ap (λ (k : ℕ). all (cellGood k) (siteOf f .states)) (start c .pre .2 .cells)
 
@@ -60,13 +60,13 @@ returns : tie.Need-returns
 returns c =
     let at = c .before in
     let p = start at .pre in
-    sym (number-5 _ (p .0) (p .1) (sym (states-told at) ∙ not-true _ (c .if1 .taken)))
+    sym (number-5 _ (p .0) (p .1) (sym (states-are at) ∙ not-true _ (c .if1 .taken)))
 
 returns-2 : tie.Need-returns-2
 returns-2 c =
     let at = c .before .before in
     let p = start at .pre in
-    sym (number-6 _ (p .0) (p .1) (sym (states-told at) ∙ not-false _ (c .before .if1 .left)) (sym (at .motions-good .ensures) ∙ not-true _ (c .if2 .taken)))
+    sym (number-6 _ (p .0) (p .1) (sym (states-are at) ∙ not-false _ (c .before .if1 .left)) (sym (at .motions-good .ensures) ∙ not-true _ (c .if2 .taken)))
 
 returns-3 : tie.Need-returns-3
 returns-3 c =
@@ -74,7 +74,7 @@ returns-3 c =
     let b = start at in
     let p = b .pre in
     sym
-    (number-0 _ (p .0) (p .1) (sym (states-told at) ∙ not-false _ (c .before .if1 .left)) (sym (at .motions-good .ensures) ∙ not-false _ (c .if2 .left))
+    (number-0 _ (p .0) (p .1) (sym (states-are at) ∙ not-false _ (c .before .if1 .left)) (sym (at .motions-good .ensures) ∙ not-false _ (c .if2 .left))
     ∙ accepted-is (b .args .file .now) (p .1) (b .args .head) (p .2) _ _ (at .before .before .before .state-place .ensures) (at .before .count-fields .ensures))
 
 pub check-values-spec : {M : Type 1} → statement M

@@ -5,6 +5,7 @@ use mathlib.Core.Path.{_≡_, sym, ap, _∙_}
 use mathlib.Core.Bool.{true, false}
 use borrow.Author.Tests.{not-true, not-false}
 use lib.ListN.{getD}
+use Rattle.meaning.specs.Limits.{horizonLimit, cellLimit, stateLimit}
 use Rattle.meaning.specs.Basics.{within, u16At}
 use Rattle.site_layout.specs.Laid.{headValues}
 use borrow.Author.Needs.{needs}
@@ -17,9 +18,9 @@ unfolding headValues
 returns-3 c =
     let a = c .before .before .before .before .before .before .before .before .before .args in
     let f = a .file .now in
-    let h : within 1 1000 (u16At f (a .at)) ≡ true = sym (ap (within 1 1000) (c .before .before .before .before .before .before .before .number-at .ensures .0)) ∙ sym (c .before .before .before .before .before .before .in-range .ensures) ∙ not-false _ (c .before .before .before .before .before .if1 .left) in
-    let k : within 1 255 (getD f (a .at + 2) 0) ≡ true = sym (ap (within 1 255) (c .before .before .before .before .byte-at .ensures .0)) ∙ sym (c .before .before .before .in-range2 .ensures) ∙ not-false _ (c .before .before .if2 .left) in
-    simp (h, k) (c .in-range3 .ensures ∙ ap (within 1 256) (c .before .number-at2 .ensures .0))
+    let h : within 1 horizonLimit (u16At f (a .at)) ≡ true = sym (ap (within 1 horizonLimit) (c .before .before .before .before .before .before .before .number-at .ensures .0)) ∙ sym (c .before .before .before .before .before .before .in-range .ensures) ∙ not-false _ (c .before .before .before .before .before .if1 .left) in
+    let k : within 1 cellLimit (getD f (a .at + 2) 0) ≡ true = sym (ap (within 1 cellLimit) (c .before .before .before .before .byte-at .ensures .0)) ∙ sym (c .before .before .before .in-range2 .ensures) ∙ not-false _ (c .before .before .if2 .left) in
+    simp (h, k) (c .in-range3 .ensures ∙ ap (within 1 stateLimit) (c .before .number-at2 .ensures .0))
 
 number-at-requires : tie.Need-number-at-requires
 number-at-requires c κs = search needs
@@ -32,7 +33,7 @@ unfolding headValues
 returns c =
     let a = c .before .before .before .before .args in
     let f = a .file .now in
-    let h : within 1 1000 (u16At f (a .at)) ≡ false = sym (ap (within 1 1000) (c .before .before .number-at .ensures .0)) ∙ sym (c .before .in-range .ensures) ∙ not-true _ (c .if1 .taken) in
+    let h : within 1 horizonLimit (u16At f (a .at)) ≡ false = sym (ap (within 1 horizonLimit) (c .before .before .number-at .ensures .0)) ∙ sym (c .before .in-range .ensures) ∙ not-true _ (c .if1 .taken) in
     simp h
 
 add-byte-at : tie.Need-add-byte-at
@@ -49,8 +50,8 @@ unfolding headValues
 returns-2 c =
     let a = c .before .before .before .before .before .before .before .args in
     let f = a .file .now in
-    let h : within 1 1000 (u16At f (a .at)) ≡ true = sym (ap (within 1 1000) (c .before .before .before .before .before .number-at .ensures .0)) ∙ sym (c .before .before .before .before .in-range .ensures) ∙ not-false _ (c .before .before .before .if1 .left) in
-    let k : within 1 255 (getD f (a .at + 2) 0) ≡ false = sym (ap (within 1 255) (c .before .before .byte-at .ensures .0)) ∙ sym (c .before .in-range2 .ensures) ∙ not-true _ (c .if2 .taken) in
+    let h : within 1 horizonLimit (u16At f (a .at)) ≡ true = sym (ap (within 1 horizonLimit) (c .before .before .before .before .before .number-at .ensures .0)) ∙ sym (c .before .before .before .before .in-range .ensures) ∙ not-false _ (c .before .before .before .if1 .left) in
+    let k : within 1 cellLimit (getD f (a .at + 2) 0) ≡ false = sym (ap (within 1 cellLimit) (c .before .before .byte-at .ensures .0)) ∙ sym (c .before .in-range2 .ensures) ∙ not-true _ (c .if2 .taken) in
     simp (h, k)
 
 add-number-at : tie.Need-add-number-at

@@ -1,5 +1,6 @@
 -- `site_layout::motion_length` meets its contract.
 -- Assumes nothing.
+use Rattle.meaning.specs.Limits.{sweepLimit, motionSize, sweepSize}
 use Rattle.meaning.proofs.BasicsLaws.{within-range}
 use Prim.Native.Nat.{ℕ, _+_, _*_}
 use mathlib.Core.Path.{_≡_, sym, ap, _∙_}
@@ -19,8 +20,8 @@ returns-2 : tie.Need-returns-2
 unfolding motionLength
 returns-2 c =
     let n = c .before .before .before .args .len in
-    let h : within 1 16 (sweepCount n) ≡ true = sym (ap (within 1 16) (c .before .before .sweep-count .ensures)) ∙ sym (c .before .in-range .ensures) ∙ not-false _ (c .if1 .left) in
-    simp h (ap (λ (k : ℕ). eqb n (5 + 3 * k)) (c .before .before .sweep-count .ensures))
+    let h : within 1 sweepLimit (sweepCount n) ≡ true = sym (ap (within 1 sweepLimit) (c .before .before .sweep-count .ensures)) ∙ sym (c .before .in-range .ensures) ∙ not-false _ (c .if1 .left) in
+    simp h (ap (λ (k : ℕ). eqb n (motionSize + sweepSize * k)) (c .before .before .sweep-count .ensures))
 
 sweep-count-requires : tie.Need-sweep-count-requires
 sweep-count-requires c κs = search needs
@@ -32,18 +33,18 @@ returns : tie.Need-returns
 unfolding motionLength
 returns c =
     let n = c .before .before .before .args .len in
-    let h : within 1 16 (sweepCount n) ≡ false = sym (ap (within 1 16) (c .before .before .sweep-count .ensures)) ∙ sym (c .before .in-range .ensures) ∙ not-true _ (c .if1 .taken) in
+    let h : within 1 sweepLimit (sweepCount n) ≡ false = sym (ap (within 1 sweepLimit) (c .before .before .sweep-count .ensures)) ∙ sym (c .before .in-range .ensures) ∙ not-true _ (c .if1 .taken) in
     simp h
 
 mul-result : tie.Need-mul-result
 mul-result c =
-    let h = within-range 1 16 (c .before .before .sweep-count .result) (sym (c .before .in-range .ensures) ∙ not-false _ (c .if1 .left)) in
+    let h = within-range 1 sweepLimit (c .before .before .sweep-count .result) (sym (c .before .in-range .ensures) ∙ not-false _ (c .if1 .left)) in
     let m = h .1 in
     omega arith
 
 add-result : tie.Need-add-result
 add-result c =
-    let h = within-range 1 16 (c .before .before .sweep-count .result) (sym (c .before .in-range .ensures) ∙ not-false _ (c .if1 .left)) in
+    let h = within-range 1 sweepLimit (c .before .before .sweep-count .result) (sym (c .before .in-range .ensures) ∙ not-false _ (c .if1 .left)) in
     let m = h .1 in
     omega arith
 

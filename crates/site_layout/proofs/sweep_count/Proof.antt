@@ -2,6 +2,7 @@
 -- Assumes nothing.
 use Prim.Native.Nat.{_-_}
 use mathlib.Core.Path.{_≡_, refl}
+use Rattle.meaning.specs.Limits.{motionSize}
 use Rattle.meaning.specs.Site.{sweepCount}
 use native.Mathlib.Omega.{arith}
 use Rattle.site_layout.proofs.sweep_count.Statement.{statement}
@@ -9,7 +10,7 @@ use Rattle.site_layout.proofs.sweep_count.Tie as tie
 
 returns : tie.Need-returns
 unfolding sweepCount
-returns c = let z : c .before .args .len - 5 ≡ 0 = omega arith in rw z
+returns c = let z : c .before .args .len - motionSize ≡ 0 = omega arith in rw z
 
 returns-2 : tie.Need-returns-2
 unfolding sweepCount

@@ -4,6 +4,7 @@ use Prim.Native.Nat.{_+_, _*_}
 use mathlib.Core.Path.{refl}
 use native.Mathlib.Omega.{arith}
 use borrow.Author.Needs.{needs}
+use Rattle.meaning.specs.Limits.{sweepSize}
 use Rattle.site_sweeps.proofs.read_sweep.Statement.{statement}
 use Rattle.site_sweeps.proofs.read_sweep.Tie as tie
 
@@ -17,7 +18,7 @@ shared-slice-read-t7 : tie.Need-shared-slice-read-t7
 shared-slice-read-t7 c = search needs
 
 cast-t5 : tie.Need-cast-t5
-cast-t5 c = let a = c .before .args in omega (arith, c .shared-slice-known .given (a .at + 3 * a .i))
+cast-t5 c = let a = c .before .args in omega (arith, c .shared-slice-known .given (a .at + sweepSize * a .i))
 
 add-t8 : tie.Need-add-t8
 add-t8 c = search needs
@@ -34,7 +35,7 @@ shared-slice-read-t13 c = search needs
 returns : tie.Need-returns
 returns c =
     let a = c .before .before .before .args in
-    record { same = refl; small = c .before .before .shared-slice-known .given (a .at + 3 * a .i) .fits }
+    record { same = refl; small = c .before .before .shared-slice-known .given (a .at + sweepSize * a .i) .fits }
 
 pub read-sweep-spec : {M : Type 1} → statement M
 read-sweep-spec =
