@@ -11,16 +11,16 @@ ghost use Prim.Native.Nat.{ℕ, _+_, _*_, _^_, _≤_, _<_};
 ghost use mathlib.Core.List.{List};
 ghost use lib.ListN.{length};
 ghost use Rattle.meaning.specs.Plan.{freeFromTo};
-ghost use Rattle.search_sizes.specs.Sizes.{rowWords, cellRows, freeWords, levelRows, runRows, runWords};
+ghost use Rattle.search_sizes.specs.Sizes.{rowWords, paddedWords, spanLimit, cellRows, freeWords, levelRows, doubledRows, runRows, runWords};
 ghost use Rattle.search_ticks.specs.Rows.{has, Words, Changed, rowsFree};
 ghost use Rattle.search_runs.specs.Runs.{narrowed, twice, Blank, Placed, Runs};
 
-// ---- the runs: rows of 20 words of which the last 4 stay 0, so that a shift down may read past a row.
-// Row c + 256 j has the ticks from which cell c is free for 2 ^ j ticks, j up to 4.
+// ---- the runs: rows of words of which the last 4 stay 0, so that a shift down may read past a row.
+// Row c of level j has the ticks from which cell c is free for 2 ^ j ticks, j up to 4.
 
 // Row c of the free ticks as row c of the runs.
 fn copy_row(runs: &mut [u64], f: &[u64], c: usize)
-    requires { ⌜ (c * 20 + 16 ≤ length (now runs)) × ((c * rowWords + rowWords ≤ length (now f)) × Words (now runs)) ⌝ }
+    requires { ⌜ (c * paddedWords + rowWords ≤ length (now runs)) × ((c * rowWords + rowWords ≤ length (now f)) × Words (now runs)) ⌝ }
     ensures { λ _. ⌜ Placed (now (runs .entry)) (now (runs .exit)) c (has (now (f .entry)) c) ⌝ }
 {
     let a = c * PADDED_WORDS;
@@ -32,9 +32,9 @@ fn copy_row(runs: &mut [u64], f: &[u64], c: usize)
     }
 }
 
-// The ticks of row r at which row r has the tick that is k ticks later too, as row r + 256.
+// The ticks of row r at which row r has the tick that is k ticks later too, as the row of the same cell a level higher.
 fn double_row(runs: &mut [u64], r: usize, k: usize)
-    requires { ⌜ ((r + levelRows) * 20 + 16 ≤ length (now runs)) × ((r < 1024) × ((k < 64) × Words (now runs))) ⌝ }
+    requires { ⌜ ((r + levelRows) * paddedWords + rowWords ≤ length (now runs)) × ((r < doubledRows) × ((k < 64) × Words (now runs))) ⌝ }
     ensures { λ _. ⌜ Placed (now (runs .entry)) (now (runs .exit)) (r + levelRows) (twice (now (runs .entry)) r k) ⌝ }
 {
     let a = (r + LEVEL_ROWS) * PADDED_WORDS;
@@ -117,7 +117,7 @@ fn level_of(n: usize) -> usize
 
 // Keeps of row m the ticks t at which row r of the runs has the tick t + later.
 fn narrow(k: &mut [u64], runs: &[u64], m: usize, r: usize, later: usize)
-    requires { ⌜ (m * rowWords + rowWords ≤ length (now k)) × ((r * 20 + 20 ≤ length (now runs)) × ((later ≤ 255) × Words (now runs))) ⌝ }
+    requires { ⌜ (m * rowWords + rowWords ≤ length (now k)) × ((r * paddedWords + paddedWords ≤ length (now runs)) × ((later ≤ spanLimit) × Words (now runs))) ⌝ }
     ensures { λ _. ⌜ Changed (now (k .entry)) (now (k .exit)) m (narrowed (now (k .entry)) (now (runs .entry)) m r later) ⌝ }
 {
     let a = m * ROW_WORDS;
@@ -132,7 +132,7 @@ fn narrow(k: &mut [u64], runs: &[u64], m: usize, r: usize, later: usize)
 
 // Keeps of row m the ticks t at which cell c is free from t + first to t + last: runs, one after the other, and a last one up to the end.
 pub fn narrow_run(k: &mut [u64], runs: &[u64], m: usize, c: usize, first: usize, last: usize)
-    requires { ⌜ (m * rowWords + rowWords ≤ length (now k)) × ((c < cellRows) × ((first ≤ last) × (last ≤ 255))) ⌝ }
+    requires { ⌜ (m * rowWords + rowWords ≤ length (now k)) × ((c < cellRows) × ((first ≤ last) × (last ≤ spanLimit))) ⌝ }
     requires { ⌜ (runWords ≤ length (now runs)) × Words (now runs) ⌝ }
     ensures { λ _. ⌜ length (now (k .exit)) ≡ length (now (k .entry)) ⌝ }
     ensures { λ _. ⌜ ((f : List ℕ) → Runs f (now (runs .entry)) runRows → Changed (now (k .entry)) (now (k .exit)) m

@@ -4,7 +4,7 @@
 use Prim.Native.Nat.{ℕ, _+_, _*_, _≤_, _<_}
 use mathlib.Core.List.{List}
 use lib.ListN.{length, getD}
-use Rattle.search_sizes.specs.Sizes.{cellRows, stateRows, motionRows}
+use Rattle.search_sizes.specs.Sizes.{cellRows, stateRows, motionRows, spanLimit}
 
 abbrev pub cellAt : List ℕ → ℕ → ℕ
 cellAt st s = getD st (s * 2) 0
@@ -39,4 +39,4 @@ pub record Motions (k : ℕ) (mv : List ℕ) : Type 0 where
   pub long : k * 5 ≤ length mv
   pub from : (m : ℕ) → m < k → fromAt mv m < stateRows
   pub to : (m : ℕ) → m < k → toAt mv m < stateRows
-  pub span : (m : ℕ) → m < k → (1 ≤ spanAt mv m) × (spanAt mv m ≤ 255)
+  pub span : (m : ℕ) → m < k → (1 ≤ spanAt mv m) × (spanAt mv m ≤ spanLimit)

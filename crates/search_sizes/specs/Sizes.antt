@@ -9,6 +9,20 @@ rowWords = 16
 abbrev pub rowTicks : ℕ
 rowTicks = 1024
 
+-- ticks that stay 0 beside a row, and the words and the ticks of a row with them
+abbrev pub paddingTicks : ℕ
+paddingTicks = 256
+
+abbrev pub paddedWords : ℕ
+paddedWords = 20
+
+abbrev pub paddedTicks : ℕ
+paddedTicks = 1280
+
+-- the longest span, which one byte holds
+abbrev pub spanLimit : ℕ
+spanLimit = 255
+
 -- rows of cells, states and motions
 abbrev pub cellRows : ℕ
 cellRows = 256
@@ -40,9 +54,12 @@ stateNumbers = 512
 abbrev pub motionNumbers : ℕ
 motionNumbers = 10000
 
--- rows of one level of runs, of all levels, and their words
+-- rows of one level of runs, of all levels but the last, of all levels, and their words
 abbrev pub levelRows : ℕ
 levelRows = 256
+
+abbrev pub doubledRows : ℕ
+doubledRows = 1024
 
 abbrev pub runRows : ℕ
 runRows = 1280

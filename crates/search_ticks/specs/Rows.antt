@@ -8,7 +8,7 @@ use mathlib.Core.List.{List, [], _∷_}
 use lib.Dec.{ltb, eqb}
 use lib.ListN.{length, getD}
 use Rattle.meaning.specs.Board.{Free}
-use Rattle.search_sizes.specs.Sizes.{rowTicks}
+use Rattle.search_sizes.specs.Sizes.{rowTicks, paddingTicks}
 use Rattle.search_ticks.specs.Bits.{bit}
 
 -- bit j of a list of words
@@ -50,15 +50,15 @@ pub record Changed (l₀ l : List ℕ) (s : ℕ) (test : ℕ → Bool) : Type 0 
   pub others : (x t : ℕ) → (x ≡ s → ⊥) → t < rowTicks → has l x t ≡ has l₀ x t
   pub sized : length l ≡ length l₀
 
--- the ticks that row s of l and row m of k share, behind 256 ticks that are in neither
+-- the ticks that row s of l and row m of k share, behind ticks that are in neither
 pub record Met (l k : List ℕ) (s m : ℕ) (x : List ℕ) : Type 0 where
   pub fits : Words x
-  pub early : (j : ℕ) → j < 256 → at x j ≡ false
-  pub late : (t : ℕ) → t < rowTicks → at x (256 + t) ≡ has l s t && has k m t
+  pub early : (j : ℕ) → j < paddingTicks → at x j ≡ false
+  pub late : (t : ℕ) → t < rowTicks → at x (paddingTicks + t) ≡ has l s t && has k m t
 
 -- in the set, or one of x's that is span ticks earlier
 abbrev pub pushed : List ℕ → List ℕ → ℕ → ℕ → ℕ → Bool
-pushed l x s span t = has l s t || at x (256 - span + t)
+pushed l x s span t = has l s t || at x (paddingTicks - span + t)
 
 -- what waits reach: a free tick that is in the set, or whose tick before is reached so
 unfoldable pub waited : (ℕ → Bool) → (ℕ → Bool) → ℕ → Bool

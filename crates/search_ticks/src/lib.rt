@@ -7,7 +7,7 @@ ghost use mathlib.Core.Path.{_≡_};
 ghost use mathlib.Core.Bool.{false};
 ghost use Prim.Native.Nat.{ℕ, _+_, _*_, _≤_, _<_};
 ghost use lib.ListN.{length};
-ghost use Rattle.search_sizes.specs.Sizes.{rowWords, rowTicks};
+ghost use Rattle.search_sizes.specs.Sizes.{rowWords, rowTicks, spanLimit};
 ghost use Rattle.search_ticks.specs.Bits.{windowOf, fillOf};
 ghost use Rattle.search_ticks.specs.Rows.{has, Words, Grown, Changed, Met, pushed, filled, seeded};
 
@@ -83,7 +83,7 @@ pub fn meet(l: &[u64], k: &[u64], s: usize, m: usize) -> [u64; PADDED_WORDS]
 
 // Sets the ticks of x, `span` ticks later, in row `to`. Answers the bits that were new, of all words together.
 pub fn push(l: &mut [u64], x: &[u64; PADDED_WORDS], to: usize, span: usize) -> u64
-    requires { ⌜ (to * rowWords + rowWords ≤ length (now l)) × ((1 ≤ span) × (span ≤ 255)) ⌝ }
+    requires { ⌜ (to * rowWords + rowWords ≤ length (now l)) × ((1 ≤ span) × (span ≤ spanLimit)) ⌝ }
     requires { ⌜ Words (now x) ⌝ }
     ensures { λ d. ⌜ Changed (now (l .entry)) (now (l .exit)) to (pushed (now (l .entry)) (now (x .entry)) to span) ⌝ }
     ensures { λ d. ⌜ Grown (now (l .entry)) (now (l .exit)) d ⌝ }

@@ -5,6 +5,7 @@ use native.Mathlib.Omega.{arith}
 use mathlib.Core.Path.{_≡_, refl, _∙_}
 use lib.ListN.{length}
 use borrow.Author.Needs.{needs}
+use Rattle.search_sizes.specs.Sizes.{runWords}
 use Rattle.search_runs.proofs.RunLaws.{blank}
 use Rattle.search_reach.proofs.AllowLaws.{Allowing, allowing-start, allowing-turn, allowing-end}
 use Rattle.search_reach.proofs.allow_all.Statement.{statement}
@@ -17,7 +18,7 @@ abbrev μ-loop : tie.MeasureT-loop
 μ-loop allowed₀ frees moves sweeps k runs m₀ allowed m = k - m
 
 fill-runs-requires : tie.Need-fill-runs-requires Inv-loop μ-loop
-fill-runs-requires c κs = (blank 25600, omega arith)
+fill-runs-requires c κs = (blank runWords, omega arith)
 
 loop-holds : tie.Need-loop-holds Inv-loop μ-loop
 loop-holds c =

@@ -7,6 +7,7 @@ use borrow.Author.Needs.{needs}
 use native.Mathlib.Omega.{arith}
 use lib.ListN.{length}
 use Rattle.meaning.specs.Site.{Sweep}
+use Rattle.search_sizes.specs.Sizes.{runRows}
 use Rattle.search_ticks.specs.Rows.{rowsFree}
 use Rattle.search_runs.specs.Runs.{Runs}
 use Rattle.search_reach.proofs.AllowLaws.{Narrowing, narrowing-start, narrowing-turn, narrowing-end}
@@ -15,7 +16,7 @@ use Rattle.search_reach.proofs.allow_one.Tie as tie
 
 abbrev Inv-loop : tie.InvT-loop
 Inv-loop allowed₀ runs sweeps m place count i₀ allowed i =
-    (i ≤ count) × ((length allowed ≡ length allowed₀) × ((f : List ℕ) → Runs f runs 1280 → Narrowing sweeps (rowsFree f) allowed₀ allowed m place count i))
+    (i ≤ count) × ((length allowed ≡ length allowed₀) × ((f : List ℕ) → Runs f runs runRows → Narrowing sweeps (rowsFree f) allowed₀ allowed m place count i))
 
 abbrev μ-loop : tie.MeasureT-loop
 μ-loop allowed₀ runs sweeps m place count i₀ allowed i = count - i

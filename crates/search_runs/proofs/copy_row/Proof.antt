@@ -1,6 +1,7 @@
 -- `search_runs::copy_row` meets its contract: the loop writes the row word by word.
 -- Assumes nothing.
 use Prim.Native.Nat.{_+_, _-_, _*_, _≤_}
+use Rattle.search_sizes.specs.Sizes.{rowWords}
 use Rattle.search_runs.proofs.RunLaws.{Placing, placing-start, copyWord, copy-turn, copy-done}
 use borrow.Author.Needs.{needs}
 use native.Mathlib.Omega.{arith}
@@ -8,10 +9,10 @@ use Rattle.search_runs.proofs.copy_row.Statement.{statement}
 use Rattle.search_runs.proofs.copy_row.Tie as tie
 
 abbrev Inv-loop : tie.InvT-loop
-Inv-loop runs₀ f c a b i₀ runs i = (i ≤ 16) × Placing (copyWord f b) a runs₀ runs i
+Inv-loop runs₀ f c a b i₀ runs i = (i ≤ rowWords) × Placing (copyWord f b) a runs₀ runs i
 
 abbrev μ-loop : tie.MeasureT-loop
-μ-loop runs₀ f c a b i₀ runs i = 16 - i
+μ-loop runs₀ f c a b i₀ runs i = rowWords - i
 
 mul-a : tie.Need-mul-a Inv-loop μ-loop
 mul-a c = search needs
@@ -47,7 +48,7 @@ loop-less : tie.Need-loop-less Inv-loop μ-loop
 loop-less c = search needs
 
 loop-again : tie.Need-loop-again Inv-loop μ-loop
-loop-again c = (omega arith, copy-turn _ _ _ _ _ _ (omega arith) (omega (arith, c .shared-slice-known .given (c .before .before .before .args .c * 16 + c .before .before .loop .i))) (c .before .before .loop .inv .1))
+loop-again c = (omega arith, copy-turn _ _ _ _ _ _ (omega arith) (omega (arith, c .shared-slice-known .given (c .before .before .before .args .c * rowWords + c .before .before .loop .i))) (c .before .before .loop .inv .1))
 
 same-length : tie.Need-same-length Inv-loop μ-loop
 same-length c = c .before .loop .inv .1 .sized

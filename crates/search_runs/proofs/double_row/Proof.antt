@@ -1,6 +1,7 @@
 -- `search_runs::double_row` meets its contract: the words that it reads stand before those that it writes.
 -- Assumes nothing.
 use Prim.Native.Nat.{_-_, _≤_}
+use Rattle.search_sizes.specs.Sizes.{rowWords}
 use Rattle.search_runs.proofs.RunLaws.{Placing, placing-start, twiceWord, twice-turn, twice-done}
 use borrow.Author.Needs.{needs}
 use native.Mathlib.Omega.{arith}
@@ -8,10 +9,10 @@ use Rattle.search_runs.proofs.double_row.Statement.{statement}
 use Rattle.search_runs.proofs.double_row.Tie as tie
 
 abbrev Inv-loop : tie.InvT-loop
-Inv-loop runs₀ r k a b later i₀ runs i = (i ≤ 16) × Placing (twiceWord runs₀ b later) a runs₀ runs i
+Inv-loop runs₀ r k a b later i₀ runs i = (i ≤ rowWords) × Placing (twiceWord runs₀ b later) a runs₀ runs i
 
 abbrev μ-loop : tie.MeasureT-loop
-μ-loop runs₀ r k a b later i₀ runs i = 16 - i
+μ-loop runs₀ r k a b later i₀ runs i = rowWords - i
 
 add-a : tie.Need-add-a Inv-loop μ-loop
 add-a c = search needs

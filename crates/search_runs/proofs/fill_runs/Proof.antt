@@ -1,7 +1,7 @@
--- `search_runs::fill_runs` meets its contract: the rows below r + 256 are done.
+-- `search_runs::fill_runs` meets its contract: the rows below the one that is doubled last are done.
 -- Assumes nothing.
 use Prim.Native.Nat.{_+_, _-_, _≤_}
-use Rattle.search_sizes.specs.Sizes.{rowTicks}
+use Rattle.search_sizes.specs.Sizes.{levelRows, doubledRows}
 use Rattle.search_runs.specs.Runs.{Runs}
 use Rattle.search_runs.proofs.RunLaws.{runs-double, runs-all}
 use borrow.Author.Needs.{needs}
@@ -10,10 +10,10 @@ use Rattle.search_runs.proofs.fill_runs.Statement.{statement}
 use Rattle.search_runs.proofs.fill_runs.Tie as tie
 
 abbrev Inv-loop : tie.InvT-loop
-Inv-loop runs₀ f r₀ runs r = (r ≤ rowTicks) × Runs f runs (r + 256)
+Inv-loop runs₀ f r₀ runs r = (r ≤ doubledRows) × Runs f runs (r + levelRows)
 
 abbrev μ-loop : tie.MeasureT-loop
-μ-loop runs₀ f r₀ runs r = rowTicks - r
+μ-loop runs₀ f r₀ runs r = doubledRows - r
 
 single-runs-requires : tie.Need-single-runs-requires Inv-loop μ-loop
 single-runs-requires c κs = search needs

@@ -3,6 +3,7 @@
 use Prim.Native.Nat.{_-_, _≤_}
 use mathlib.Core.Path.{_≡_, refl}
 use lib.ListN.{length, length-set}
+use Rattle.search_sizes.specs.Sizes.{rowWords}
 use Rattle.search_ticks.proofs.RowLaws.{mapRow, map-end}
 use Rattle.search_runs.proofs.RunLaws.{narrowWord, narrow-turn, narrow-done}
 use borrow.Author.Needs.{needs}
@@ -11,10 +12,10 @@ use Rattle.search_runs.proofs.narrow.Statement.{statement}
 use Rattle.search_runs.proofs.narrow.Tie as tie
 
 abbrev Inv-loop : tie.InvT-loop
-Inv-loop k₀ runs m r later a b d i₀ k i = (i ≤ 16) × ((length k ≡ length k₀) × (mapRow (narrowWord runs b d) a (16 - i) i k ≡ mapRow (narrowWord runs b d) a 16 0 k₀))
+Inv-loop k₀ runs m r later a b d i₀ k i = (i ≤ rowWords) × ((length k ≡ length k₀) × (mapRow (narrowWord runs b d) a (rowWords - i) i k ≡ mapRow (narrowWord runs b d) a rowWords 0 k₀))
 
 abbrev μ-loop : tie.MeasureT-loop
-μ-loop k₀ runs m r later a b d i₀ k i = 16 - i
+μ-loop k₀ runs m r later a b d i₀ k i = rowWords - i
 
 mul-a : tie.Need-mul-a Inv-loop μ-loop
 mul-a c = search needs

@@ -4,6 +4,7 @@ use Prim.Native.Nat.{ℕ, _+_, _-_, _≤_}
 use mathlib.Core.Path.{_≡_, refl, _∙_}
 use mathlib.Core.List.{List}
 use lib.ListN.{length}
+use Rattle.search_sizes.specs.Sizes.{runRows}
 use Rattle.search_runs.specs.Runs.{Runs}
 use Rattle.search_runs.proofs.RunLaws.{Swept, swept-none, swept-more, swept-done}
 use borrow.Author.Needs.{needs}
@@ -12,7 +13,7 @@ use Rattle.search_runs.proofs.narrow_run.Statement.{statement}
 use Rattle.search_runs.proofs.narrow_run.Tie as tie
 
 abbrev Inv-loop : tie.InvT-loop
-Inv-loop k₀ runs m c first last level size row at₀ k at = ((first ≤ at) × (at ≤ last)) × ((length k ≡ length k₀) × ((f : List ℕ) → Runs f runs 1280 → Swept f k₀ k m c first (at - first)))
+Inv-loop k₀ runs m c first last level size row at₀ k at = ((first ≤ at) × (at ≤ last)) × ((length k ≡ length k₀) × ((f : List ℕ) → Runs f runs runRows → Swept f k₀ k m c first (at - first)))
 
 abbrev μ-loop : tie.MeasureT-loop
 μ-loop k₀ runs m c first last level size row at₀ k at = last - at

@@ -1,6 +1,7 @@
 -- `search_runs::single_runs` meets its contract: the rows below c are done.
 -- Assumes nothing.
 use Prim.Native.Nat.{_-_, _≤_}
+use Rattle.search_sizes.specs.Sizes.{cellRows}
 use Rattle.search_runs.specs.Runs.{Runs}
 use Rattle.search_runs.proofs.RunLaws.{runs-none, runs-single, runs-all}
 use borrow.Author.Needs.{needs}
@@ -9,10 +10,10 @@ use Rattle.search_runs.proofs.single_runs.Statement.{statement}
 use Rattle.search_runs.proofs.single_runs.Tie as tie
 
 abbrev Inv-loop : tie.InvT-loop
-Inv-loop runs₀ f c₀ runs c = (c ≤ 256) × Runs f runs c
+Inv-loop runs₀ f c₀ runs c = (c ≤ cellRows) × Runs f runs c
 
 abbrev μ-loop : tie.MeasureT-loop
-μ-loop runs₀ f c₀ runs c = 256 - c
+μ-loop runs₀ f c₀ runs c = cellRows - c
 
 loop-holds : tie.Need-loop-holds Inv-loop μ-loop
 loop-holds c = (omega arith, runs-none _ _ (c .before .pre .0))
