@@ -53,7 +53,7 @@ fn wait_hit(states: &[u16], frees: &[u64], reached: &[u64], n: usize, s: usize, 
 
 // Whether motion m from a reached pair ends in (s, t).
 fn move_hit(
-    moves: &[u16],
+    motions: &[u16],
     allowed: &[u64],
     reached: &[u64],
     k: usize,
@@ -61,19 +61,19 @@ fn move_hit(
     t: usize,
     m: usize,
 ) -> bool
-    requires { ⌜ Motions k (now moves) × ((m < k) × (t < rowTicks)) ⌝ }
+    requires { ⌜ Motions k (now motions) × ((m < k) × (t < rowTicks)) ⌝ }
     requires { ⌜ (k * rowWords ≤ length (now allowed)) × (reachedWords ≤ length (now reached)) ⌝ }
-    ensures { λ r. ⌜ r ≡ moveHit (now (moves .entry)) (now (allowed .entry)) (now (reached .entry)) s t m ⌝ }
+    ensures { λ r. ⌜ r ≡ moveHit (now (motions .entry)) (now (allowed .entry)) (now (reached .entry)) s t m ⌝ }
 {
-    let to = search_site::to_of(moves, k, m);
+    let to = search_site::to_of(motions, k, m);
     if to != s {
         return false;
     }
-    let span = search_site::span_of(moves, k, m);
+    let span = search_site::span_of(motions, k, m);
     if t < span {
         return false;
     }
-    let from = search_site::from_of(moves, k, m);
+    let from = search_site::from_of(motions, k, m);
     let before = search_ticks::is_set(reached, from, t - span);
     let may = search_ticks::is_set(allowed, m, t - span);
     before & may
@@ -81,20 +81,20 @@ fn move_hit(
 
 // 3 and the number of the lowest motion that ends in (s, t), or 0.
 fn first_move(
-    moves: &[u16],
+    motions: &[u16],
     allowed: &[u64],
     reached: &[u64],
     k: usize,
     s: usize,
     t: usize,
 ) -> usize
-    requires { ⌜ Motions k (now moves) × (t < rowTicks) ⌝ }
+    requires { ⌜ Motions k (now motions) × (t < rowTicks) ⌝ }
     requires { ⌜ (k * rowWords ≤ length (now allowed)) × (reachedWords ≤ length (now reached)) ⌝ }
-    ensures { λ r. ⌜ r ≡ wordBy false (firstMove (now (moves .entry)) (now (allowed .entry)) (now (reached .entry)) k s t) ⌝ }
+    ensures { λ r. ⌜ r ≡ wordBy false (firstMove (now (motions .entry)) (now (allowed .entry)) (now (reached .entry)) k s t) ⌝ }
 {
     let mut m = 0;
     while m < k {
-        if move_hit(moves, allowed, reached, k, s, t, m) {
+        if move_hit(motions, allowed, reached, k, s, t, m) {
             return m + 3;
         }
         m += 1;
@@ -105,7 +105,7 @@ fn first_move(
 // The word of (s, t): 0 not reached, 1 the start, 2 by a wait, 3 + m by motion m.
 pub fn word_at(
     states: &[u16],
-    moves: &[u16],
+    motions: &[u16],
     frees: &[u64],
     allowed: &[u64],
     reached: &[u64],
@@ -115,18 +115,18 @@ pub fn word_at(
     s: usize,
     t: usize,
 ) -> usize
-    requires { ⌜ States n (now states) × Motions k (now moves) ⌝ }
+    requires { ⌜ States n (now states) × Motions k (now motions) ⌝ }
     requires { ⌜ (freeWords ≤ length (now frees)) × ((k * rowWords ≤ length (now allowed)) × (reachedWords ≤ length (now reached))) ⌝ }
     requires { ⌜ (s < n) × ((tick ≤ t) × (t ≤ horizonLimit)) ⌝ }
     ensures { λ r. ⌜ ((site : Site) (f : Free) (start : ℕ) (sw : List ℕ) → WellFormed site → t ≤ site .horizon
-        → Sets site f (node start tick) n k (now (states .entry)) (now (moves .entry)) sw (now (frees .entry)) (now (allowed .entry)) (now (reached .entry))
+        → Sets site f (node start tick) n k (now (states .entry)) (now (motions .entry)) sw (now (frees .entry)) (now (allowed .entry)) (now (reached .entry))
         → r ≡ reachWord site f (node start tick) (t - tick) s) ⌝ }
 {
     if tick < t {
         if wait_hit(states, frees, reached, n, s, t) {
             return 2;
         }
-        return first_move(moves, allowed, reached, k, s, t);
+        return first_move(motions, allowed, reached, k, s, t);
     }
     if search_ticks::is_set(reached, s, t) {
         return 1;

@@ -29,7 +29,7 @@ fn in_turn(s: usize, turn: usize) -> usize
 // Tries every state, up or down in turn.
 fn spread_all(
     states: &[u16],
-    moves: &[u16],
+    motions: &[u16],
     frees: &[u64],
     allowed: &[u64],
     reached: &mut [u64],
@@ -39,14 +39,14 @@ fn spread_all(
     k: usize,
     turn: usize,
 )
-    requires { ⌜ States n (now states) × (Motions k (now moves) × (length (now grown) ≡ stateRows)) ⌝ }
+    requires { ⌜ States n (now states) × (Motions k (now motions) × (length (now grown) ≡ stateRows)) ⌝ }
     requires { ⌜ (freeWords ≤ length (now frees)) × ((k * rowWords ≤ length (now allowed)) × (reachedWords ≤ length (now reached))) ⌝ }
-    ensures { λ _. ⌜ Going (Closed n k (now (states .entry)) (now (moves .entry)) (now (frees .entry)) (now (allowed .entry)))
+    ensures { λ _. ⌜ Going (Closed n k (now (states .entry)) (now (motions .entry)) (now (frees .entry)) (now (allowed .entry)))
         (now (reached .entry)) (now (reached .exit)) ⌝ }
     ensures { λ _. ⌜ length (now (grown .exit)) ≡ stateRows ⌝ }
-    ensures { λ _. ⌜ (Listed k (now (moves .entry)) (now (lists .entry))
-        → Tried n k (now (states .entry)) (now (moves .entry)) (now (frees .entry)) (now (allowed .entry)) (now (grown .entry)) (has (now (reached .entry)))
-        → Tried n k (now (states .entry)) (now (moves .entry)) (now (frees .entry)) (now (allowed .entry)) (now (grown .exit)) (has (now (reached .exit)))) ⌝ }
+    ensures { λ _. ⌜ (Listed k (now (motions .entry)) (now (lists .entry))
+        → Tried n k (now (states .entry)) (now (motions .entry)) (now (frees .entry)) (now (allowed .entry)) (now (grown .entry)) (has (now (reached .entry)))
+        → Tried n k (now (states .entry)) (now (motions .entry)) (now (frees .entry)) (now (allowed .entry)) (now (grown .exit)) (has (now (reached .exit)))) ⌝ }
     ensures { λ _. ⌜ Progress (now (reached .entry)) (now (reached .exit)) (NoneGrown (now (grown .exit))) ⌝ }
 {
     let mut s = 0;
@@ -54,7 +54,7 @@ fn spread_all(
         let x = in_turn(s, turn);
         search_spread::spread_one(
             states,
-            moves,
+            motions,
             frees,
             allowed,
             reached,
@@ -86,19 +86,19 @@ fn none_grown(grown: &[u64; STATES]) -> bool
 // All waits and all motions until nothing new is set: the states whose sets have grown, up and down in turn.
 pub fn settle(
     states: &[u16],
-    moves: &[u16],
+    motions: &[u16],
     frees: &[u64],
     allowed: &[u64],
     reached: &mut [u64],
     n: usize,
     k: usize,
 )
-    requires { ⌜ States n (now states) × Motions k (now moves) ⌝ }
+    requires { ⌜ States n (now states) × Motions k (now motions) ⌝ }
     requires { ⌜ (freeWords ≤ length (now frees)) × ((k * rowWords ≤ length (now allowed)) × (reachedWords ≤ length (now reached))) ⌝ }
-    ensures { λ _. ⌜ Settled (Closed n k (now (states .entry)) (now (moves .entry)) (now (frees .entry)) (now (allowed .entry)))
+    ensures { λ _. ⌜ Settled (Closed n k (now (states .entry)) (now (motions .entry)) (now (frees .entry)) (now (allowed .entry)))
         (now (reached .entry)) (now (reached .exit)) ⌝ }
 {
-    let lists = search_lists::lists_of(moves, k);
+    let lists = search_lists::lists_of(motions, k);
     let mut grown = [1u64; STATES];
     let mut turn: usize = 0;
     loop {
@@ -107,7 +107,7 @@ pub fn settle(
         }
         spread_all(
             states,
-            moves,
+            motions,
             frees,
             allowed,
             reached,

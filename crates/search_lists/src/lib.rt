@@ -11,15 +11,15 @@ ghost use Rattle.search_lists.specs.Lists.{Listed};
 const NO_MOTION: u16 = MOTIONS as u16;
 
 // Lists of the motions from each state, in rising order: at m stands the motion after m, behind all motions, at s, the first one of s; the number that is no motion's ends a list.
-pub fn lists_of(moves: &[u16], k: usize) -> [u16; LISTED]
-    requires { ⌜ Motions k (now moves) ⌝ }
-    ensures { λ r. ⌜ Listed k (now (moves .entry)) r ⌝ }
+pub fn lists_of(motions: &[u16], k: usize) -> [u16; LISTED]
+    requires { ⌜ Motions k (now motions) ⌝ }
+    ensures { λ r. ⌜ Listed k (now (motions .entry)) r ⌝ }
 {
     let mut lists = [NO_MOTION; LISTED];
     let mut m = k;
     while 0 < m {
         m -= 1;
-        let first = MOTIONS + search_site::from_of(moves, k, m);
+        let first = MOTIONS + search_site::from_of(motions, k, m);
         lists[m] = lists[first];
         lists[first] = m as u16;
     }

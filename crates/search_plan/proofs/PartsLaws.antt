@@ -113,9 +113,9 @@ module _ (file board : List ℕ) (l : Sizes) (trip : Trip) (q : Asked file l (le
   pub sets-in : (st mv fr al re : List ℕ) → StatesDecoded file st → MotionsDecoded file mv
       → ((s : Site) → s .cells ≡ l .cells → s .horizon ≡ l .horizon → (c t : ℕ) → rowsFree fr c t ≡ free s board c t) → Starts (l .motions) mv file fr al
       → Explored (Closed (l .states) (l .motions) st mv fr al) fr (cellAt st start) start tick re → SetsOn file board l trip st mv fr al re
-  sets-in st mv fr al re states moves frees starts explored =
+  sets-in st mv fr al re states motions frees starts explored =
       sets-right site site-well board (l .states) (l .motions) st mv file fr al re start tick
-      (decoded file (q .ready .read) st mv states moves (l .states) (l .motions) same-states same-motions) (frees site same-cells same-horizon) starts (ranges .start-below) (named-tick site (node start tick) goal (q .named)) explored
+      (decoded file (q .ready .read) st mv states motions (l .states) (l .motions) same-states same-motions) (frees site same-cells same-horizon) starts (ranges .start-below) (named-tick site (node start tick) goal (q .named)) explored
 
   -- ---- the plan
 

@@ -24,16 +24,16 @@ pub fn search(
     ensures { λ r. ⌜ Planned (routeOn (now (file .entry)) (now (board .entry)) trip) (now (path .exit)) r ⌝ }
 {
     let states = search_site::decode_states(file, sizes.states);
-    let moves = search_site::decode_moves(file, sizes.start, sizes.motions);
+    let motions = search_site::decode_motions(file, sizes.start, sizes.motions);
     let frees = search_free::free_rows(board, sizes.cells, sizes.horizon);
     let mut allowed = [18446744073709551615u64; ALLOWED_WORDS];
-    search_reach::allow_all(&mut allowed, &frees, &moves, file, sizes.motions);
+    search_reach::allow_all(&mut allowed, &frees, &motions, file, sizes.motions);
     let start = trip.start as usize;
     let tick = trip.tick as usize;
     let goal = trip.goal as usize;
     let reached = search_reach::explore(
         &states,
-        &moves,
+        &motions,
         &frees,
         &allowed,
         sizes.states,
@@ -47,7 +47,7 @@ pub fn search(
     }
     let count = search_trace::trace_back(
         &states,
-        &moves,
+        &motions,
         &frees,
         &allowed,
         &reached,

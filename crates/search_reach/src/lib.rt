@@ -35,18 +35,18 @@ fn allow_one(allowed: &mut [u64], runs: &[u64], sweeps: &[u8], m: usize, place: 
 }
 
 // The allowed starts of the k motions, a row each, in rows that are full.
-pub fn allow_all(allowed: &mut [u64], frees: &[u64], moves: &[u16], sweeps: &[u8], k: usize)
+pub fn allow_all(allowed: &mut [u64], frees: &[u64], motions: &[u16], sweeps: &[u8], k: usize)
     requires { ⌜ (k * rowWords ≤ length (now allowed)) × (freeWords ≤ length (now frees)) ⌝ }
-    requires { ⌜ Motions k (now moves) × Sweeps k (now moves) (now sweeps) ⌝ }
+    requires { ⌜ Motions k (now motions) × Sweeps k (now motions) (now sweeps) ⌝ }
     requires { ⌜ ((m t : ℕ) → m < k → t < rowTicks → has (now allowed) m t ≡ true) ⌝ }
-    ensures { λ _. ⌜ Starts k (now (moves .entry)) (now (sweeps .entry)) (now (frees .entry)) (now (allowed .exit)) ⌝ }
+    ensures { λ _. ⌜ Starts k (now (motions .entry)) (now (sweeps .entry)) (now (frees .entry)) (now (allowed .exit)) ⌝ }
 {
     let mut runs = [0u64; RUN_WORDS];
     search_runs::fill_runs(&mut runs, frees);
     let mut m = 0;
     while m < k {
-        let place = search_site::place_of(moves, k, m);
-        let count = search_site::count_of(moves, k, m);
+        let place = search_site::place_of(motions, k, m);
+        let count = search_site::count_of(motions, k, m);
         allow_one(allowed, &runs, sweeps, m, place, count);
         m += 1;
     }
@@ -57,7 +57,7 @@ pub fn allow_all(allowed: &mut [u64], frees: &[u64], moves: &[u16], sweeps: &[u8
 // The pairs that waits and motions reach from the start, if its cell is free.
 pub fn explore(
     states: &[u16],
-    moves: &[u16],
+    motions: &[u16],
     frees: &[u64],
     allowed: &[u64],
     n: usize,
@@ -65,17 +65,17 @@ pub fn explore(
     start: usize,
     tick: usize,
 ) -> [u64; REACHED_WORDS]
-    requires { ⌜ States n (now states) × Motions k (now moves) ⌝ }
+    requires { ⌜ States n (now states) × Motions k (now motions) ⌝ }
     requires { ⌜ (freeWords ≤ length (now frees)) × (k * rowWords ≤ length (now allowed)) ⌝ }
     requires { ⌜ (start < n) × (tick < rowTicks) ⌝ }
-    ensures { λ l. ⌜ Explored (Closed n k (now (states .entry)) (now (moves .entry)) (now (frees .entry)) (now (allowed .entry)))
+    ensures { λ l. ⌜ Explored (Closed n k (now (states .entry)) (now (motions .entry)) (now (frees .entry)) (now (allowed .entry)))
         (now (frees .entry)) (cellAt (now (states .entry)) start) start tick l ⌝ }
 {
     let mut reached = [0u64; REACHED_WORDS];
     let cell = search_site::cell_of(states, n, start);
     if search_ticks::is_set(frees, cell, tick) {
         search_ticks::seed(&mut reached, start, tick);
-        search_fixpoint::settle(states, moves, frees, allowed, &mut reached, n, k);
+        search_fixpoint::settle(states, motions, frees, allowed, &mut reached, n, k);
         return reached;
     }
     reached

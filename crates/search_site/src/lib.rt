@@ -41,44 +41,44 @@ pub fn speed_of(states: &[u16], n: usize, s: usize) -> usize
 
 // ---- the numbers of motion m: the states from which and to which it leads, its span, and the place and number of its sweeps
 
-pub fn from_of(moves: &[u16], k: usize, m: usize) -> usize
-    requires { ⌜ Motions k (now moves) ⌝ }
+pub fn from_of(motions: &[u16], k: usize, m: usize) -> usize
+    requires { ⌜ Motions k (now motions) ⌝ }
     requires { ⌜ m < k ⌝ }
-    ensures { λ r. ⌜ r ≡ fromAt (now (moves .entry)) m ⌝ }
+    ensures { λ r. ⌜ r ≡ fromAt (now (motions .entry)) m ⌝ }
 {
-    number(moves[m * MOTION_SIZE])
+    number(motions[m * MOTION_SIZE])
 }
 
-pub fn to_of(moves: &[u16], k: usize, m: usize) -> usize
-    requires { ⌜ Motions k (now moves) ⌝ }
+pub fn to_of(motions: &[u16], k: usize, m: usize) -> usize
+    requires { ⌜ Motions k (now motions) ⌝ }
     requires { ⌜ m < k ⌝ }
-    ensures { λ r. ⌜ r ≡ toAt (now (moves .entry)) m ⌝ }
+    ensures { λ r. ⌜ r ≡ toAt (now (motions .entry)) m ⌝ }
 {
-    number(moves[m * MOTION_SIZE + 1])
+    number(motions[m * MOTION_SIZE + 1])
 }
 
-pub fn span_of(moves: &[u16], k: usize, m: usize) -> usize
-    requires { ⌜ Motions k (now moves) ⌝ }
+pub fn span_of(motions: &[u16], k: usize, m: usize) -> usize
+    requires { ⌜ Motions k (now motions) ⌝ }
     requires { ⌜ m < k ⌝ }
-    ensures { λ r. ⌜ r ≡ spanAt (now (moves .entry)) m ⌝ }
+    ensures { λ r. ⌜ r ≡ spanAt (now (motions .entry)) m ⌝ }
 {
-    number(moves[m * MOTION_SIZE + 2])
+    number(motions[m * MOTION_SIZE + 2])
 }
 
-pub fn place_of(moves: &[u16], k: usize, m: usize) -> usize
-    requires { ⌜ Motions k (now moves) ⌝ }
+pub fn place_of(motions: &[u16], k: usize, m: usize) -> usize
+    requires { ⌜ Motions k (now motions) ⌝ }
     requires { ⌜ m < k ⌝ }
-    ensures { λ r. ⌜ r ≡ placeAt (now (moves .entry)) m ⌝ }
+    ensures { λ r. ⌜ r ≡ placeAt (now (motions .entry)) m ⌝ }
 {
-    number(moves[m * MOTION_SIZE + 3])
+    number(motions[m * MOTION_SIZE + 3])
 }
 
-pub fn count_of(moves: &[u16], k: usize, m: usize) -> usize
-    requires { ⌜ Motions k (now moves) ⌝ }
+pub fn count_of(motions: &[u16], k: usize, m: usize) -> usize
+    requires { ⌜ Motions k (now motions) ⌝ }
     requires { ⌜ m < k ⌝ }
-    ensures { λ r. ⌜ r ≡ countAt (now (moves .entry)) m ⌝ }
+    ensures { λ r. ⌜ r ≡ countAt (now (motions .entry)) m ⌝ }
 {
-    number(moves[m * MOTION_SIZE + 4])
+    number(motions[m * MOTION_SIZE + 4])
 }
 
 // ---- the arrays, from the file
@@ -109,29 +109,29 @@ pub fn decode_states(file: &[u8], count: usize) -> [u16; STATE_NUMBERS]
 }
 
 // Writes the five numbers of the motion m.
-fn put_move(moves: &mut [u16; MOTION_NUMBERS], m: usize, r: Motion)
+fn put_motion(motions: &mut [u16; MOTION_NUMBERS], m: usize, r: Motion)
     requires { ⌜ (m < motionRows) × FitsU16 r ⌝ }
-    ensures { λ _. ⌜ now (moves .exit) ≡ setMotion (now (moves .entry)) (m * 5) r ⌝ }
+    ensures { λ _. ⌜ now (motions .exit) ≡ setMotion (now (motions .entry)) (m * 5) r ⌝ }
 {
-    moves[m * MOTION_SIZE] = r.from as u16;
-    moves[m * MOTION_SIZE + 1] = r.to as u16;
-    moves[m * MOTION_SIZE + 2] = r.span as u16;
-    moves[m * MOTION_SIZE + 3] = r.first as u16;
-    moves[m * MOTION_SIZE + 4] = r.count as u16;
+    motions[m * MOTION_SIZE] = r.from as u16;
+    motions[m * MOTION_SIZE + 1] = r.to as u16;
+    motions[m * MOTION_SIZE + 2] = r.span as u16;
+    motions[m * MOTION_SIZE + 3] = r.first as u16;
+    motions[m * MOTION_SIZE + 4] = r.count as u16;
 }
 
 // From, to, span, place and number of sweeps of each of the `count` motions, which start at `start`.
-pub fn decode_moves(file: &[u8], start: usize, count: usize) -> [u16; MOTION_NUMBERS]
+pub fn decode_motions(file: &[u8], start: usize, count: usize) -> [u16; MOTION_NUMBERS]
     requires { ⌜ (readSite (now file) ≡ accepted (siteOf (now file))) × (start ≡ statePlace (length (siteOf (now file) .states))) ⌝ }
     requires { ⌜ count ≡ length (siteOf (now file) .motions) ⌝ }
     ensures { λ r. ⌜ MotionsDecoded (now (file .entry)) r ⌝ }
 {
     let index = site_read::motion_index(file, start, count);
-    let mut moves = [0u16; MOTION_NUMBERS];
+    let mut motions = [0u16; MOTION_NUMBERS];
     let mut m = 0;
     while m < count {
-        put_move(&mut moves, m, site_read::motion_at(file, &index, m));
+        put_motion(&mut motions, m, site_read::motion_at(file, &index, m));
         m += 1;
     }
-    moves
+    motions
 }

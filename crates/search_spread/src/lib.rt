@@ -14,7 +14,7 @@ ghost use Rattle.search_spread.specs.Spread.{MovesClosed, Tried, Noted, 
 
 // Tries the motions of the list of state s, and notes the states whose sets grow.
 fn move_from(
-    moves: &[u16],
+    motions: &[u16],
     allowed: &[u64],
     reached: &mut [u64],
     lists: &[u16; LISTED],
@@ -22,18 +22,18 @@ fn move_from(
     k: usize,
     s: usize,
 )
-    requires { ⌜ Motions k (now moves) × ((s < stateRows) × (length (now grown) ≡ stateRows)) ⌝ }
+    requires { ⌜ Motions k (now motions) × ((s < stateRows) × (length (now grown) ≡ stateRows)) ⌝ }
     requires { ⌜ (k * rowWords ≤ length (now allowed)) × (reachedWords ≤ length (now reached)) ⌝ }
-    ensures { λ _. ⌜ Going (Below (MoveClosed (now (moves .entry)) (now (allowed .entry))) k) (now (reached .entry)) (now (reached .exit)) ⌝ }
+    ensures { λ _. ⌜ Going (Below (MoveClosed (now (motions .entry)) (now (allowed .entry))) k) (now (reached .entry)) (now (reached .exit)) ⌝ }
     ensures { λ _. ⌜ (length (now (grown .exit)) ≡ stateRows) × Noted (now (reached .entry)) (now (grown .entry)) (now (reached .exit)) (now (grown .exit)) ⌝ }
-    ensures { λ _. ⌜ (Listed k (now (moves .entry)) (now (lists .entry)) → getD (now (grown .exit)) s 0 ≡ 0
-        → MovesClosed k (now (moves .entry)) (now (allowed .entry)) s (has (now (reached .exit)))) ⌝ }
+    ensures { λ _. ⌜ (Listed k (now (motions .entry)) (now (lists .entry)) → getD (now (grown .exit)) s 0 ≡ 0
+        → MovesClosed k (now (motions .entry)) (now (allowed .entry)) s (has (now (reached .exit)))) ⌝ }
     ensures { λ _. ⌜ Progress (now (reached .entry)) (now (reached .exit)) (Unnoted (now (grown .entry)) (now (grown .exit))) ⌝ }
 {
     let mut m = search_lists::listed_at(lists, MOTIONS + s);
     while m < k {
-        let new = search_step::move_one(moves, allowed, reached, k, m);
-        let to = search_site::to_of(moves, k, m);
+        let new = search_step::move_one(motions, allowed, reached, k, m);
+        let to = search_site::to_of(motions, k, m);
         grown[to] = grown[to] | new;
         let after = search_lists::listed_at(lists, m);
         if after <= m {
@@ -60,7 +60,7 @@ fn wait_in(states: &[u16], frees: &[u64], reached: &mut [u64], n: usize, s: usiz
 // Tries the waits and the motions of state s, if its set has grown since the last time.
 pub fn spread_one(
     states: &[u16],
-    moves: &[u16],
+    motions: &[u16],
     frees: &[u64],
     allowed: &[u64],
     reached: &mut [u64],
@@ -70,14 +70,14 @@ pub fn spread_one(
     k: usize,
     s: usize,
 )
-    requires { ⌜ States n (now states) × (Motions k (now moves) × ((s < stateRows) × (length (now grown) ≡ stateRows))) ⌝ }
+    requires { ⌜ States n (now states) × (Motions k (now motions) × ((s < stateRows) × (length (now grown) ≡ stateRows))) ⌝ }
     requires { ⌜ (freeWords ≤ length (now frees)) × ((k * rowWords ≤ length (now allowed)) × (reachedWords ≤ length (now reached))) ⌝ }
-    ensures { λ _. ⌜ Going (Closed n k (now (states .entry)) (now (moves .entry)) (now (frees .entry)) (now (allowed .entry)))
+    ensures { λ _. ⌜ Going (Closed n k (now (states .entry)) (now (motions .entry)) (now (frees .entry)) (now (allowed .entry)))
         (now (reached .entry)) (now (reached .exit)) ⌝ }
     ensures { λ _. ⌜ length (now (grown .exit)) ≡ stateRows ⌝ }
-    ensures { λ _. ⌜ (Listed k (now (moves .entry)) (now (lists .entry))
-        → Tried n k (now (states .entry)) (now (moves .entry)) (now (frees .entry)) (now (allowed .entry)) (now (grown .entry)) (has (now (reached .entry)))
-        → Tried n k (now (states .entry)) (now (moves .entry)) (now (frees .entry)) (now (allowed .entry)) (now (grown .exit)) (has (now (reached .exit)))) ⌝ }
+    ensures { λ _. ⌜ (Listed k (now (motions .entry)) (now (lists .entry))
+        → Tried n k (now (states .entry)) (now (motions .entry)) (now (frees .entry)) (now (allowed .entry)) (now (grown .entry)) (has (now (reached .entry)))
+        → Tried n k (now (states .entry)) (now (motions .entry)) (now (frees .entry)) (now (allowed .entry)) (now (grown .exit)) (has (now (reached .exit)))) ⌝ }
     ensures { λ _. ⌜ Progress (now (reached .entry)) (now (reached .exit)) (UnnotedBut (now (grown .entry)) (now (grown .exit)) s) ⌝ }
 {
     if grown[s] == 0 {
@@ -88,5 +88,5 @@ pub fn spread_one(
         return;
     }
     wait_in(states, frees, reached, n, s);
-    move_from(moves, allowed, reached, lists, grown, k, s);
+    move_from(motions, allowed, reached, lists, grown, k, s);
 }

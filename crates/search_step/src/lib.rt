@@ -20,15 +20,15 @@ pub fn wait_one(states: &[u16], frees: &[u64], reached: &mut [u64], n: usize, s:
 }
 
 // Sets what motion m reaches. Answers 0 where nothing was new.
-pub fn move_one(moves: &[u16], allowed: &[u64], reached: &mut [u64], k: usize, m: usize) -> u64
-    requires { ⌜ Motions k (now moves) × (m < k) ⌝ }
+pub fn move_one(motions: &[u16], allowed: &[u64], reached: &mut [u64], k: usize, m: usize) -> u64
+    requires { ⌜ Motions k (now motions) × (m < k) ⌝ }
     requires { ⌜ (k * rowWords ≤ length (now allowed)) × (reachedWords ≤ length (now reached)) ⌝ }
-    ensures { λ d. ⌜ Step (MoveClosed (now (moves .entry)) (now (allowed .entry)) m) (now (reached .entry)) (now (reached .exit)) d ⌝ }
-    ensures { λ _. ⌜ Moved (now (moves .entry)) (now (allowed .entry)) m (now (reached .entry)) (now (reached .exit)) ⌝ }
+    ensures { λ d. ⌜ Step (MoveClosed (now (motions .entry)) (now (allowed .entry)) m) (now (reached .entry)) (now (reached .exit)) d ⌝ }
+    ensures { λ _. ⌜ Moved (now (motions .entry)) (now (allowed .entry)) m (now (reached .entry)) (now (reached .exit)) ⌝ }
 {
-    let from = search_site::from_of(moves, k, m);
-    let to = search_site::to_of(moves, k, m);
-    let span = search_site::span_of(moves, k, m);
+    let from = search_site::from_of(motions, k, m);
+    let to = search_site::to_of(motions, k, m);
+    let span = search_site::span_of(motions, k, m);
     let x = search_ticks::meet(reached, allowed, from, m);
     search_ticks::push(reached, &x, to, span)
 }

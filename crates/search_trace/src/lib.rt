@@ -47,7 +47,7 @@ fn push_move(path: &mut [u16; CODE_LIMIT], count: usize, m: usize) -> usize
 // Walks back from the goal at the arrival, and leaves the route's steps in `path`. Answers how many there are.
 pub fn trace_back(
     states: &[u16],
-    moves: &[u16],
+    motions: &[u16],
     frees: &[u64],
     allowed: &[u64],
     reached: &[u64],
@@ -58,26 +58,26 @@ pub fn trace_back(
     arrival: usize,
     path: &mut [u16; CODE_LIMIT],
 ) -> usize
-    requires { ⌜ States n (now states) × Motions k (now moves) ⌝ }
+    requires { ⌜ States n (now states) × Motions k (now motions) ⌝ }
     requires { ⌜ (freeWords ≤ length (now frees)) × ((k * rowWords ≤ length (now allowed)) × (reachedWords ≤ length (now reached))) ⌝ }
-    requires { ⌜ (goal < n) × ((x : Search) × Found x n k (now states) (now moves) (now frees) (now allowed) (now reached) tick goal arrival) ⌝ }
+    requires { ⌜ (goal < n) × ((x : Search) × Found x n k (now states) (now motions) (now frees) (now allowed) (now reached) tick goal arrival) ⌝ }
     ensures { λ r. ⌜ ((x : Search)
-        → Found x n k (now (states .entry)) (now (moves .entry)) (now (frees .entry)) (now (allowed .entry)) (now (reached .entry)) tick goal arrival
+        → Found x n k (now (states .entry)) (now (motions .entry)) (now (frees .entry)) (now (allowed .entry)) (now (reached .entry)) tick goal arrival
         → stepsIn (now (path .exit)) r ≡ x .route .steps) ⌝ }
 {
     let mut s = goal;
     let mut t = arrival;
     let mut count = 0;
     while tick < t {
-        let w = search_back::word_at(states, moves, frees, allowed, reached, n, k, tick, s, t);
+        let w = search_back::word_at(states, motions, frees, allowed, reached, n, k, tick, s, t);
         if w == 2 {
             count = push_wait(path, count);
             t -= 1;
         } else {
             let m = w - 3;
             count = push_move(path, count, m);
-            s = search_site::from_of(moves, k, m);
-            let span = search_site::span_of(moves, k, m);
+            s = search_site::from_of(motions, k, m);
+            let span = search_site::span_of(motions, k, m);
             t -= span;
         }
     }

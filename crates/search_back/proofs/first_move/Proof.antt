@@ -8,10 +8,10 @@ use Rattle.search_back.proofs.first_move.Statement.{statement}
 use Rattle.search_back.proofs.first_move.Tie as tie
 
 abbrev Inv-loop : tie.InvT-loop
-Inv-loop moves allowed reached k s t m₀ m = (m ≤ k) × NoneBelow moves allowed reached k s t m
+Inv-loop motions allowed reached k s t m₀ m = (m ≤ k) × NoneBelow motions allowed reached k s t m
 
 abbrev μ-loop : tie.MeasureT-loop
-μ-loop moves allowed reached k s t m₀ m = k - m
+μ-loop motions allowed reached k s t m₀ m = k - m
 
 loop-holds : tie.Need-loop-holds Inv-loop μ-loop
 loop-holds c = (omega arith, refl)
@@ -29,7 +29,7 @@ add-result c =
 returns : tie.Need-returns Inv-loop μ-loop
 returns c =
     let b = c .before .before .before .before .before .before .before .args in
-    move-found (b .moves .now) (b .allowed .now) (b .reached .now) (b .k) (b .s) (b .t) _ _
+    move-found (b .motions .now) (b .allowed .now) (b .reached .now) (b .k) (b .s) (b .t) _ _
     (c .before .before .loop-test .taken) (c .before .before .before .loop .inv .1) (c .before .move-hit .ensures) (c .if1 .taken)
 
 add-m : tie.Need-add-m Inv-loop μ-loop
@@ -42,14 +42,14 @@ loop-again : tie.Need-loop-again Inv-loop μ-loop
 loop-again c =
     let b = c .before .before .before .before .before .before .before .args in (
       omega arith,
-      move-missed (b .moves .now) (b .allowed .now) (b .reached .now) (b .k) (b .s) (b .t) _ _
+      move-missed (b .motions .now) (b .allowed .now) (b .reached .now) (b .k) (b .s) (b .t) _ _
           (c .before .before .before .loop .inv .1) (c .before .move-hit .ensures) (c .if1 .left),
     )
 
 returns-2 : tie.Need-returns-2 Inv-loop μ-loop
 returns-2 c =
     let b = c .before .before .before .before .before .args in
-    move-none (b .moves .now) (b .allowed .now) (b .reached .now) (b .k) (b .s) (b .t) _
+    move-none (b .motions .now) (b .allowed .now) (b .reached .now) (b .k) (b .s) (b .t) _
     (c .before .loop .inv .0) (omega arith) (c .before .loop .inv .1)
 
 pub first-move-spec : {M : Type 1} → statement M

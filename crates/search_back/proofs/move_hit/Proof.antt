@@ -12,7 +12,7 @@ to-of-requires c κs = search needs
 returns : tie.Need-returns
 returns c =
     let b = c .before .before .before .before .before .args in
-    move-elsewhere (b .moves .now) (b .allowed .now) (b .reached .now) (b .s) (b .t) (b .m) _
+    move-elsewhere (b .motions .now) (b .allowed .now) (b .reached .now) (b .s) (b .t) (b .m) _
     (c .before .to-of .ensures) (c .if1 .taken)
 
 span-of-requires : tie.Need-span-of-requires
@@ -21,7 +21,7 @@ span-of-requires c κs = search needs
 returns-2 : tie.Need-returns-2
 returns-2 c =
     let b = c .before .before .before .before .before .before .before .args in
-    move-soon (b .moves .now) (b .allowed .now) (b .reached .now) (b .s) (b .t) (b .m) _
+    move-soon (b .motions .now) (b .allowed .now) (b .reached .now) (b .s) (b .t) (b .m) _
     (c .before .span-of .ensures) (c .if2 .taken)
 
 from-of-requires : tie.Need-from-of-requires
@@ -42,7 +42,7 @@ returns-3 c =
     let else1 = after-span .before in
     let after-to = else1 .before in
     let b = after-to .before .before .before .before .args in
-    move-tested (b .moves .now) (b .allowed .now) (b .reached .now) (b .s) (b .t) (b .m) _ _ _ _ _ (after-to .to-of .ensures) (else1 .if1 .left) (after-span .span-of .ensures) (else2 .if2 .left)
+    move-tested (b .motions .now) (b .allowed .now) (b .reached .now) (b .s) (b .t) (b .m) _ _ _ _ _ (after-to .to-of .ensures) (else1 .if1 .left) (after-span .span-of .ensures) (else2 .if2 .left)
     (c .before .before .from-of .ensures) (c .before .is-set .ensures) (c .is-set2 .ensures)
 
 pub move-hit-spec : {M : Type 1} → statement M

@@ -15,8 +15,8 @@ wait-hit-requires c κs =
 returns : tie.Need-returns
 returns c =
     let b = c .before .before .before .before .before .before .before .before .args in
-    word-says (b .states .now) (b .moves .now) (b .frees .now) (b .allowed .now) (b .reached .now) (b .k) (b .tick) (b .s) (b .t) (b .n) _ (omega arith) (omega arith)
-    (word-wait (b .states .now) (b .moves .now) (b .frees .now) (b .allowed .now) (b .reached .now) (b .k) (b .tick) (b .s) (b .t) _
+    word-says (b .states .now) (b .motions .now) (b .frees .now) (b .allowed .now) (b .reached .now) (b .k) (b .tick) (b .s) (b .t) (b .n) _ (omega arith) (omega arith)
+    (word-wait (b .states .now) (b .motions .now) (b .frees .now) (b .allowed .now) (b .reached .now) (b .k) (b .tick) (b .s) (b .t) _
     (c .before .before .if1 .taken) (c .before .wait-hit .ensures) (c .if2 .taken))
 
 first-move-requires : tie.Need-first-move-requires
@@ -27,8 +27,8 @@ first-move-requires c κs =
 returns-2 : tie.Need-returns-2
 returns-2 c =
     let b = c .before .before .before .before .before .before .before .before .before .args in
-    word-says (b .states .now) (b .moves .now) (b .frees .now) (b .allowed .now) (b .reached .now) (b .k) (b .tick) (b .s) (b .t) (b .n) _ (omega arith) (omega arith)
-    (word-move (b .states .now) (b .moves .now) (b .frees .now) (b .allowed .now) (b .reached .now) (b .k) (b .tick) (b .s) (b .t) _ _
+    word-says (b .states .now) (b .motions .now) (b .frees .now) (b .allowed .now) (b .reached .now) (b .k) (b .tick) (b .s) (b .t) (b .n) _ (omega arith) (omega arith)
+    (word-move (b .states .now) (b .motions .now) (b .frees .now) (b .allowed .now) (b .reached .now) (b .k) (b .tick) (b .s) (b .t) _ _
     (c .before .before .before .if1 .taken) (c .before .before .wait-hit .ensures) (c .before .if2 .left) (c .first-move .ensures))
 
 is-set-requires : tie.Need-is-set-requires
@@ -39,15 +39,15 @@ is-set-requires c κs =
 returns-3 : tie.Need-returns-3
 returns-3 c =
     let b = c .before .before .before .before .before .before .before .before .args in
-    word-says (b .states .now) (b .moves .now) (b .frees .now) (b .allowed .now) (b .reached .now) (b .k) (b .tick) (b .s) (b .t) (b .n) _ (omega arith) (omega arith)
-    (ap (λ (x : Bool). cond x 1 0) (sym (c .if3 .taken)) ∙ word-start (b .states .now) (b .moves .now) (b .frees .now) (b .allowed .now) (b .reached .now) (b .k) (b .tick) (b .s) (b .t) _
+    word-says (b .states .now) (b .motions .now) (b .frees .now) (b .allowed .now) (b .reached .now) (b .k) (b .tick) (b .s) (b .t) (b .n) _ (omega arith) (omega arith)
+    (ap (λ (x : Bool). cond x 1 0) (sym (c .if3 .taken)) ∙ word-start (b .states .now) (b .motions .now) (b .frees .now) (b .allowed .now) (b .reached .now) (b .k) (b .tick) (b .s) (b .t) _
     (c .before .before .if1 .left) (c .before .is-set .ensures))
 
 returns-4 : tie.Need-returns-4
 returns-4 c =
     let b = c .before .before .before .before .before .before .before .before .args in
-    word-says (b .states .now) (b .moves .now) (b .frees .now) (b .allowed .now) (b .reached .now) (b .k) (b .tick) (b .s) (b .t) (b .n) _ (omega arith) (omega arith)
-    (ap (λ (x : Bool). cond x 1 0) (sym (c .if3 .left)) ∙ word-start (b .states .now) (b .moves .now) (b .frees .now) (b .allowed .now) (b .reached .now) (b .k) (b .tick) (b .s) (b .t) _
+    word-says (b .states .now) (b .motions .now) (b .frees .now) (b .allowed .now) (b .reached .now) (b .k) (b .tick) (b .s) (b .t) (b .n) _ (omega arith) (omega arith)
+    (ap (λ (x : Bool). cond x 1 0) (sym (c .if3 .left)) ∙ word-start (b .states .now) (b .motions .now) (b .frees .now) (b .allowed .now) (b .reached .now) (b .k) (b .tick) (b .s) (b .t) _
     (c .before .before .if1 .left) (c .before .is-set .ensures))
 
 pub word-at-spec : {M : Type 1} → statement M

@@ -15,14 +15,14 @@ use Rattle.search_fixpoint.proofs.settle.Statement.{statement}
 use Rattle.search_fixpoint.proofs.settle.Tie as tie
 
 abbrev Inv-loop : tie.InvT-loop
-Inv-loop states moves frees allowed reached₀ n k lists grown₀ turn₀ reached grown turn =
-    Going (Closed n k states moves frees allowed) reached₀ reached
+Inv-loop states motions frees allowed reached₀ n k lists grown₀ turn₀ reached grown turn =
+    Going (Closed n k states motions frees allowed) reached₀ reached
     × (length grown ≡ stateRows)
-    × Tried n k states moves frees allowed grown (has reached)
+    × Tried n k states motions frees allowed grown (has reached)
     × (turn < 2)
 
 abbrev μ-loop : tie.MeasureT-loop
-μ-loop states moves frees allowed reached₀ n k lists grown₀ turn₀ reached grown turn = left reached grown
+μ-loop states motions frees allowed reached₀ n k lists grown₀ turn₀ reached grown turn = left reached grown
 
 lists-of-requires : tie.Need-lists-of-requires Inv-loop μ-loop
 lists-of-requires c κs = search needs
@@ -30,7 +30,7 @@ lists-of-requires c κs = search needs
 loop-holds : tie.Need-loop-holds Inv-loop μ-loop
 loop-holds c =
     let a = c .before .before .before .before .before .before .args in
-    (going-start _ _, length-replicate {A = ℕ} stateRows 1, tried-start (a .n) (a .k) (a .states .now) (a .moves .now) (a .frees .now) (a .allowed .now) (a .reached .now), omega arith)
+    (going-start _ _, length-replicate {A = ℕ} stateRows 1, tried-start (a .n) (a .k) (a .states .now) (a .motions .now) (a .frees .now) (a .allowed .now) (a .reached .now), omega arith)
 
 none-grown-requires : tie.Need-none-grown-requires Inv-loop μ-loop
 none-grown-requires c κs = search needs
@@ -47,7 +47,7 @@ returns c =
     record {
       within = i .0 .within;
       kept = i .0 .kept;
-      closed = tried-closed (a .n) (a .k) (a .states .now) (a .moves .now) (a .frees .now) (a .allowed .now) (turn .loop .grown) (turn .loop .reached) (start .pre .0 .0 .few) (start .pre .0 .1) (c .before .none-grown .ensures .0 (c .if1 .taken)) (i .2);
+      closed = tried-closed (a .n) (a .k) (a .states .now) (a .motions .now) (a .frees .now) (a .allowed .now) (turn .loop .grown) (turn .loop .reached) (start .pre .0 .0 .few) (start .pre .0 .1) (c .before .none-grown .ensures .0 (c .if1 .taken)) (i .2);
     }
 
 spread-all-requires : tie.Need-spread-all-requires Inv-loop μ-loop

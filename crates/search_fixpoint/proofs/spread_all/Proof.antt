@@ -17,15 +17,15 @@ use Rattle.search_fixpoint.proofs.spread_all.Statement.{statement}
 use Rattle.search_fixpoint.proofs.spread_all.Tie as tie
 
 abbrev Inv-loop : tie.InvT-loop
-Inv-loop states moves frees allowed reached₀ lists grown₀ n k turn s₀ reached grown s =
+Inv-loop states motions frees allowed reached₀ lists grown₀ n k turn s₀ reached grown s =
     (s ≤ stateRows)
-    × Going (Closed n k states moves frees allowed) reached₀ reached
+    × Going (Closed n k states motions frees allowed) reached₀ reached
     × (length grown ≡ stateRows)
-    × (Listed k moves lists → Tried n k states moves frees allowed grown₀ (has reached₀) → Tried n k states moves frees allowed grown (has reached))
+    × (Listed k motions lists → Tried n k states motions frees allowed grown₀ (has reached₀) → Tried n k states motions frees allowed grown (has reached))
     × Progress reached₀ reached (Quiet turn s grown)
 
 abbrev μ-loop : tie.MeasureT-loop
-μ-loop states moves frees allowed reached₀ lists grown₀ n k turn s₀ reached grown s = stateRows - s
+μ-loop states motions frees allowed reached₀ lists grown₀ n k turn s₀ reached grown s = stateRows - s
 
 loop-holds : tie.Need-loop-holds Inv-loop μ-loop
 loop-holds c = (omega arith, going-start _ _, c .before .before .before .before .before .pre .0 .1 .1, λ all tried. tried, progress-none _ (λ x small early. absurd (omega arith)))

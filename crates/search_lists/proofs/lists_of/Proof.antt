@@ -8,10 +8,10 @@ use Rattle.search_lists.proofs.lists_of.Statement.{statement}
 use Rattle.search_lists.proofs.lists_of.Tie as tie
 
 abbrev Inv-loop : tie.InvT-loop
-Inv-loop moves k lists₀ m₀ lists m = (m ≤ k) × Listing k moves lists m
+Inv-loop motions k lists₀ m₀ lists m = (m ≤ k) × Listing k motions lists m
 
 abbrev μ-loop : tie.MeasureT-loop
-μ-loop moves k lists₀ m₀ lists m = m
+μ-loop motions k lists₀ m₀ lists m = m
 
 loop-holds : tie.Need-loop-holds Inv-loop μ-loop
 loop-holds c = (omega arith, listing-none _ _ (c .before .pre .few))
@@ -55,7 +55,7 @@ loop-again c =
     let start = turn .before .before in
     let a = start .args in (
       omega arith,
-      listing-more (a .k) (a .moves .now) (turn .loop .lists) (turn .loop .m) (c .from-of .result) (start .pre .few) (omega arith) (omega arith) (c .from-of .ensures)
+      listing-more (a .k) (a .motions .now) (turn .loop .lists) (turn .loop .m) (c .from-of .result) (start .pre .few) (omega arith) (omega arith) (c .from-of .ensures)
           (omega (arith, c .from-of .ensures, start .pre .from (turn .loop .m - 1) (omega arith))) (start .pre .from) (turn .loop .inv .1),
     )
 

@@ -21,8 +21,8 @@ start e = e .before .before .before .before .before .before .before .before .bef
 abbrev states : tie.After-allowed3 → tie.After-decode-states
 states e = e .before .before .before .before .before .before .before .before .before .before .before .before .before .before
 
-abbrev moves : tie.After-allowed3 → tie.After-decode-moves
-moves e = e .before .before .before .before .before .before .before .before .before .before .before .before .before
+abbrev motions : tie.After-allowed3 → tie.After-decode-motions
+motions e = e .before .before .before .before .before .before .before .before .before .before .before .before .before
 
 abbrev frees : tie.After-allowed3 → tie.After-free-rows
 frees e = e .before .before .before .before .before .before .before .before .before .before .before .before
@@ -47,10 +47,10 @@ states-there e =
     let st = states e .decode-states in
     states-in _ (b .args .board .now) _ _ (b .pre) (st .result) (st .ensures) (omega (arith, st .ok))
 
-moves-there : (e : tie.After-allowed3) → Motions (start e .args .sizes .motions) (moves e .decode-moves .result)
-moves-there e =
+motions-there : (e : tie.After-allowed3) → Motions (start e .args .sizes .motions) (motions e .decode-motions .result)
+motions-there e =
     let b = start e in
-    let mv = moves e .decode-moves in
+    let mv = motions e .decode-motions in
     motions-in _ (b .args .board .now) _ _ (b .pre) (mv .result) (mv .ensures) (omega (arith, mv .ok))
 
 starts-there : (e : tie.After-allowed3) → start e .args .sizes .motions * 16 ≤ length (starts e .allow-all .last .0)
@@ -59,12 +59,12 @@ starts-there e =
 
 sets-there : (x : tie.After-explore)
     → SetsOn (start (sets x) .args .file .now) (start (sets x) .args .board .now) (start (sets x) .args .sizes) (start (sets x) .args .trip)
-    (states (sets x) .decode-states .result) (moves (sets x) .decode-moves .result) (frees (sets x) .free-rows .result)
+    (states (sets x) .decode-states .result) (motions (sets x) .decode-motions .result) (frees (sets x) .free-rows .result)
     (starts (sets x) .allow-all .last .0) (x .explore .result)
 sets-there x =
     let e = sets x in
-    sets-in _ (start e .args .board .now) _ _ (start e .pre) (states e .decode-states .result) (moves e .decode-moves .result) (frees e .free-rows .result)
-    (starts e .allow-all .last .0) (x .explore .result) (states e .decode-states .ensures) (moves e .decode-moves .ensures) (frees e .free-rows .ensures)
+    sets-in _ (start e .args .board .now) _ _ (start e .pre) (states e .decode-states .result) (motions e .decode-motions .result) (frees e .free-rows .result)
+    (starts e .allow-all .last .0) (x .explore .result) (states e .decode-states .ensures) (motions e .decode-motions .ensures) (frees e .free-rows .ensures)
     (starts e .allow-all .ensures) (x .explore .ensures)
 
 -- ---- the needs
@@ -74,8 +74,8 @@ decode-states-requires c κs =
     let b = c .before .before in
     (b .pre .ready .read, same-states _ (b .args .board .now) _ _ (b .pre))
 
-decode-moves-requires : tie.Need-decode-moves-requires
-decode-moves-requires c κs =
+decode-motions-requires : tie.Need-decode-motions-requires
+decode-motions-requires c κs =
     let b = c .before .before .before in
     ((b .pre .ready .read, ap (λ (k : Sizes). k .start) (b .pre .ready .sizes)), ap (λ (k : Sizes). k .motions) (b .pre .ready .sizes))
 
@@ -96,7 +96,7 @@ slice-aggregate-allow-all-3 c = search needs
 allow-all-requires : tie.Need-allow-all-requires
 allow-all-requires c κs =
     let b = c .before .before .before .before .before .before .before .before in
-    let mv = c .before .before .before .before .decode-moves in
+    let mv = c .before .before .before .before .decode-motions in
     let board = b .args .board .now in
     let few = ranges-at b .motions-few in (
       (ones-long allowedWords (b .args .sizes .motions) (omega (arith, few)), omega (arith, c .before .before .before .free-rows .ok)),
@@ -130,7 +130,7 @@ slice-aggregate-explore-4 c = search needs
 explore-requires : tie.Need-explore-requires
 explore-requires c κs =
     let r = ranges-at (start c) in
-    ((states-there c, moves-there c), ((omega (arith, frees c .free-rows .ok), starts-there c), (r .start-below, omega (arith, r .short, r .in-time))))
+    ((states-there c, motions-there c), ((omega (arith, frees c .free-rows .ok), starts-there c), (r .start-below, omega (arith, r .short, r .in-time))))
 
 slice-aggregate-arrival : tie.Need-slice-aggregate-arrival
 slice-aggregate-arrival c = search needs
@@ -152,7 +152,7 @@ slice-aggregate-trace-back : tie.Need-slice-aggregate-trace-back
 slice-aggregate-trace-back c = sym (c .before .before .before .before .before .before .before .before .before .before .before .before .before .before .before .before .before .before .before .before .decode-states .ok .1 .0 .1)
 
 slice-aggregate-trace-back-2 : tie.Need-slice-aggregate-trace-back-2
-slice-aggregate-trace-back-2 c = sym (c .before .before .before .before .before .before .before .before .before .before .before .before .before .before .before .before .before .before .before .before .decode-moves .ok .1 .0 .1)
+slice-aggregate-trace-back-2 c = sym (c .before .before .before .before .before .before .before .before .before .before .before .before .before .before .before .before .before .before .before .before .decode-motions .ok .1 .0 .1)
 
 slice-aggregate-trace-back-3 : tie.Need-slice-aggregate-trace-back-3
 slice-aggregate-trace-back-3 c = sym (c .before .before .before .before .before .before .before .before .before .before .before .before .before .before .before .before .before .before .before .before .free-rows .ok .1 .0 .1)
@@ -169,7 +169,7 @@ trace-back-requires c κs =
     let x = explored a in
     let e = sets x in
     let b = start e in (
-      (states-there e, moves-there e),
+      (states-there e, motions-there e),
       (
         (omega (arith, frees e .free-rows .ok), (starts-there e, omega (arith, x .explore .ok))),
         (
@@ -196,7 +196,7 @@ search-spec =
     tie.close
     (tie.spec
     decode-states-requires
-    decode-moves-requires
+    decode-motions-requires
     free-rows-requires
     slice-aggregate-allow-all
     slice-aggregate-allow-all-2

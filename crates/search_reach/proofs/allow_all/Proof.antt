@@ -12,10 +12,10 @@ use Rattle.search_reach.proofs.allow_all.Statement.{statement}
 use Rattle.search_reach.proofs.allow_all.Tie as tie
 
 abbrev Inv-loop : tie.InvT-loop
-Inv-loop allowed₀ frees moves sweeps k runs m₀ allowed m = (m ≤ k) × ((length allowed ≡ length allowed₀) × Allowing moves sweeps frees allowed k m)
+Inv-loop allowed₀ frees motions sweeps k runs m₀ allowed m = (m ≤ k) × ((length allowed ≡ length allowed₀) × Allowing motions sweeps frees allowed k m)
 
 abbrev μ-loop : tie.MeasureT-loop
-μ-loop allowed₀ frees moves sweeps k runs m₀ allowed m = k - m
+μ-loop allowed₀ frees motions sweeps k runs m₀ allowed m = k - m
 
 fill-runs-requires : tie.Need-fill-runs-requires Inv-loop μ-loop
 fill-runs-requires c κs = (blank runWords, omega arith)

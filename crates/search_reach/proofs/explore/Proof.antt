@@ -43,14 +43,14 @@ returns c =
     let start = after-cell .before .before .before .before .before in
     let b = start .args in
     let free = ap (λ (x : ℕ). has (b .frees .now) x (b .tick)) (sym (after-cell .cell-of .ensures)) ∙ sym (after-is-set .is-set .ensures) ∙ then1 .if1 .taken in
-    explored-found (Closed (b .n) (b .k) (b .states .now) (b .moves .now) (b .frees .now) (b .allowed .now)) (b .frees .now) _ _ _ (b .start) (b .tick) (omega arith) free
+    explored-found (Closed (b .n) (b .k) (b .states .now) (b .motions .now) (b .frees .now) (b .allowed .now)) (b .frees .now) _ _ _ (b .start) (b .tick) (omega arith) free
     (after-seed .seed .ensures) (c .before .settle .ensures)
 
 returns-2 : tie.Need-returns-2
 returns-2 c =
     let b = c .before .before .before .before .before .before .before .args in
     let held = ap (λ (x : ℕ). has (b .frees .now) x (b .tick)) (sym (c .before .before .cell-of .ensures)) ∙ sym (c .before .is-set .ensures) ∙ c .if1 .left in
-    explored-nothing (Closed (b .n) (b .k) (b .states .now) (b .moves .now) (b .frees .now) (b .allowed .now)) (b .frees .now) _ (b .start) (b .tick) held
+    explored-nothing (Closed (b .n) (b .k) (b .states .now) (b .motions .now) (b .frees .now) (b .allowed .now)) (b .frees .now) _ (b .start) (b .tick) held
 
 pub explore-spec : {M : Type 1} → statement M
 explore-spec =

@@ -15,14 +15,14 @@ use Rattle.search_spread.proofs.move_from.Statement.{statement}
 use Rattle.search_spread.proofs.move_from.Tie as tie
 
 abbrev Inv-loop : tie.InvT-loop
-Inv-loop moves allowed reached₀ lists grown₀ k s m₀ reached grown m =
-    Going (Below (MoveClosed moves allowed) k) reached₀ reached
+Inv-loop motions allowed reached₀ lists grown₀ k s m₀ reached grown m =
+    Going (Below (MoveClosed motions allowed) k) reached₀ reached
     × ((length grown ≡ stateRows) × Noted reached₀ grown₀ reached grown)
-    × Walked k moves allowed lists s reached grown m
+    × Walked k motions allowed lists s reached grown m
     × Progress reached₀ reached (Unnoted grown₀ grown)
 
 abbrev μ-loop : tie.MeasureT-loop
-μ-loop moves allowed reached₀ lists grown₀ k s m₀ reached grown m = k - m
+μ-loop motions allowed reached₀ lists grown₀ k s m₀ reached grown m = k - m
 
 add-listed-at : tie.Need-add-listed-at Inv-loop μ-loop
 add-listed-at c = omega arith
@@ -34,7 +34,7 @@ loop-holds : tie.Need-loop-holds Inv-loop μ-loop
 loop-holds c =
     let start = c .before .before .before .before in
     let a = start .args in
-    (going-start _ _, (start .pre .0 .1 .1, noted-start (a .reached .now) (a .grown .now)), walked-start (a .k) (a .moves .now) (a .allowed .now) (a .lists .now) (a .s) (a .reached .now) (a .grown .now) (c .listed-at .result) (c .listed-at .ensures), progress-none _ (λ x. refl))
+    (going-start _ _, (start .pre .0 .1 .1, noted-start (a .reached .now) (a .grown .now)), walked-start (a .k) (a .motions .now) (a .allowed .now) (a .lists .now) (a .s) (a .reached .now) (a .grown .now) (c .listed-at .result) (c .listed-at .ensures), progress-none _ (λ x. refl))
 
 move-one-requires : tie.Need-move-one-requires Inv-loop μ-loop
 move-one-requires c κs =
@@ -73,11 +73,11 @@ returns c =
     let moved = c .before .before .before .before .before .before .move-one in
     let to = c .before .before .before .to-of in
     let i = turn .loop .inv in (
-      going-one (MoveClosed (a .moves .now) (a .allowed .now)) (a .k) m _ _ _ _ taken (i .0) (moved .ensures .0),
+      going-one (MoveClosed (a .motions .now) (a .allowed .now)) (a .k) m _ _ _ _ taken (i .0) (moved .ensures .0),
       (
-        (simp length-set (i .1 .0), noted-more (a .k) (a .moves .now) (a .allowed .now) (a .lists .now) (a .s) (turn .loop .reached) _ (turn .loop .grown) m (moved .result) (to .result) (i .1 .0) (to .ensures) (omega (arith, to .ensures, start .pre .0 .0 .to m taken)) (moved .ensures .0) (moved .ensures .1) (a .reached .now) (a .grown .now) (i .1 .1)),
+        (simp length-set (i .1 .0), noted-more (a .k) (a .motions .now) (a .allowed .now) (a .lists .now) (a .s) (turn .loop .reached) _ (turn .loop .grown) m (moved .result) (to .result) (i .1 .0) (to .ensures) (omega (arith, to .ensures, start .pre .0 .0 .to m taken)) (moved .ensures .0) (moved .ensures .1) (a .reached .now) (a .grown .now) (i .1 .1)),
         (
-          λ all e x h from. walked-last (a .k) (a .moves .now) (a .allowed .now) (a .lists .now) (a .s) (turn .loop .reached) _ (turn .loop .grown) m (moved .result) (to .result) (i .1 .0) (to .ensures) (omega (arith, to .ensures, start .pre .0 .0 .to m taken)) (moved .ensures .0) (moved .ensures .1) (omega arith) (omega (arith, c .before .listed-at2 .ensures)) (i .2) x (listed-from (a .k) (a .moves .now) (a .lists .now) (a .s) all x h from) from e,
+          λ all e x h from. walked-last (a .k) (a .motions .now) (a .allowed .now) (a .lists .now) (a .s) (turn .loop .reached) _ (turn .loop .grown) m (moved .result) (to .result) (i .1 .0) (to .ensures) (omega (arith, to .ensures, start .pre .0 .0 .to m taken)) (moved .ensures .0) (moved .ensures .1) (omega arith) (omega (arith, c .before .listed-at2 .ensures)) (i .2) x (listed-from (a .k) (a .motions .now) (a .lists .now) (a .s) all x h from) from e,
           progress-then (λ p q x. q x ∙ p x) (i .3) (progress-move _ _ (turn .loop .grown) (moved .result) (to .result) (omega (arith, i .1 .0, to .ensures, start .pre .0 .0 .to m taken)) (moved .ensures .0 .grown)),
         ),
       ),
@@ -96,9 +96,9 @@ loop-again c =
     let moved = c .before .before .before .before .before .before .move-one in
     let to = c .before .before .before .to-of in
     let i = turn .loop .inv in (
-      going-one (MoveClosed (a .moves .now) (a .allowed .now)) (a .k) m _ _ _ _ taken (i .0) (moved .ensures .0),
-      (simp length-set (i .1 .0), noted-more (a .k) (a .moves .now) (a .allowed .now) (a .lists .now) (a .s) (turn .loop .reached) _ (turn .loop .grown) m (moved .result) (to .result) (i .1 .0) (to .ensures) (omega (arith, to .ensures, start .pre .0 .0 .to m taken)) (moved .ensures .0) (moved .ensures .1) (a .reached .now) (a .grown .now) (i .1 .1)),
-      walked-more (a .k) (a .moves .now) (a .allowed .now) (a .lists .now) (a .s) (turn .loop .reached) _ (turn .loop .grown) m (moved .result) (to .result) (i .1 .0) (to .ensures) (omega (arith, to .ensures, start .pre .0 .0 .to m taken)) (moved .ensures .0) (moved .ensures .1) (c .before .listed-at2 .result) (omega arith) (c .before .listed-at2 .ensures) (i .2),
+      going-one (MoveClosed (a .motions .now) (a .allowed .now)) (a .k) m _ _ _ _ taken (i .0) (moved .ensures .0),
+      (simp length-set (i .1 .0), noted-more (a .k) (a .motions .now) (a .allowed .now) (a .lists .now) (a .s) (turn .loop .reached) _ (turn .loop .grown) m (moved .result) (to .result) (i .1 .0) (to .ensures) (omega (arith, to .ensures, start .pre .0 .0 .to m taken)) (moved .ensures .0) (moved .ensures .1) (a .reached .now) (a .grown .now) (i .1 .1)),
+      walked-more (a .k) (a .motions .now) (a .allowed .now) (a .lists .now) (a .s) (turn .loop .reached) _ (turn .loop .grown) m (moved .result) (to .result) (i .1 .0) (to .ensures) (omega (arith, to .ensures, start .pre .0 .0 .to m taken)) (moved .ensures .0) (moved .ensures .1) (c .before .listed-at2 .result) (omega arith) (c .before .listed-at2 .ensures) (i .2),
       progress-then (λ p q x. q x ∙ p x) (i .3) (progress-move _ _ (turn .loop .grown) (moved .result) (to .result) (omega (arith, i .1 .0, to .ensures, start .pre .0 .0 .to m taken)) (moved .ensures .0 .grown)),
     )
 
@@ -110,7 +110,7 @@ returns-2 c =
     let turn = c .before in
     let a = turn .before .before .before .before .before .args in
     let i = turn .loop .inv in
-    (i .0, (i .1, (λ all e x h from. walked-end (a .k) (a .moves .now) (a .allowed .now) (a .lists .now) (a .s) (turn .loop .reached) (turn .loop .grown) (turn .loop .m) (omega arith) (i .2) x (listed-from (a .k) (a .moves .now) (a .lists .now) (a .s) all x h from) from e, i .3)))
+    (i .0, (i .1, (λ all e x h from. walked-end (a .k) (a .motions .now) (a .allowed .now) (a .lists .now) (a .s) (turn .loop .reached) (turn .loop .grown) (turn .loop .m) (omega arith) (i .2) x (listed-from (a .k) (a .motions .now) (a .lists .now) (a .s) all x h from) from e, i .3)))
 
 pub move-from-spec : {M : Type 1} → statement M
 move-from-spec =

@@ -39,7 +39,7 @@ returns-2 c =
       (
         simp length-set (start .pre .0 .1 .1 .1),
         (
-          λ all. tried-empty (a .n) (a .k) (a .states .now) (a .moves .now) (a .frees .now) (a .allowed .now) (a .grown .now) (a .reached .now) (a .s) (start .pre .0 .1 .1 .1) (c .before .row-union .ensures (c .if2 .taken)),
+          λ all. tried-empty (a .n) (a .k) (a .states .now) (a .motions .now) (a .frees .now) (a .allowed .now) (a .grown .now) (a .reached .now) (a .s) (start .pre .0 .1 .1 .1) (c .before .row-union .ensures (c .if2 .taken)),
           progress-none _ (cleared (a .grown .now) (a .s) (omega (arith, start .pre .0 .1 .1 .0, start .pre .0 .1 .1 .1))),
         ),
       ),
@@ -62,11 +62,11 @@ returns-3 c =
     let a = start .args in
     let w = c .before .before .before .before .before .before .before .wait-in .ensures in
     let f = c .before .before .move-from .ensures in (
-      going-both (a .n) (a .k) (a .states .now) (a .moves .now) (a .frees .now) (a .allowed .now) _ _ _ (w .0) (f .0),
+      going-both (a .n) (a .k) (a .states .now) (a .motions .now) (a .frees .now) (a .allowed .now) _ _ _ (w .0) (f .0),
       (
         f .1 .0 .0,
         (
-          λ all. tried-state (a .n) (a .k) (a .states .now) (a .moves .now) (a .frees .now) (a .allowed .now) (a .grown .now) (a .reached .now) (c .before .before .before .before .before .before .before .wait-in .last .1 .1 .0) (c .before .before .move-from .last .1 .1 .0) (c .before .before .move-from .last .1 .1 .1 .1 .0) (a .s) (w .0 .kept) (f .0 .kept)
+          λ all. tried-state (a .n) (a .k) (a .states .now) (a .motions .now) (a .frees .now) (a .allowed .now) (a .grown .now) (a .reached .now) (c .before .before .before .before .before .before .before .wait-in .last .1 .1 .0) (c .before .before .move-from .last .1 .1 .0) (c .before .before .move-from .last .1 .1 .1 .1 .0) (a .s) (w .0 .kept) (f .0 .kept)
               (w .1 .0) (w .1 .1 .0) (f .1 .0 .1) (f .1 .1 .0 all),
           progress-then (λ p q. cleared-then (a .grown .now) _ (a .s) (omega (arith, start .pre .0 .1 .1 .0, start .pre .0 .1 .1 .1)) q) (w .1 .1 .1) (f .1 .1 .1),
         ),

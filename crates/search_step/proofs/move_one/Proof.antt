@@ -45,9 +45,9 @@ returns c =
     let span = b .pre .0 .0 .span (b .args .m) (b .pre .0 .1) in
     let is-span = after-span .span-of .ensures in
     let done = c .before .before .push .ensures in (
-      move-step (b .args .moves .now) _ _ _ _ _ _ _ _ _ (after-from .from-of .ensures) (after-to .to-of .ensures) is-span (omega (arith, is-span, span))
+      move-step (b .args .motions .now) _ _ _ _ _ _ _ _ _ (after-from .from-of .ensures) (after-to .to-of .ensures) is-span (omega (arith, is-span, span))
           (after-meet .meet .ensures) (done .0) (done .1),
-      move-after (b .args .moves .now) _ _ _ _ _ _ _ _ _ (after-from .from-of .ensures) (after-to .to-of .ensures) is-span (omega (arith, is-span, span))
+      move-after (b .args .motions .now) _ _ _ _ _ _ _ _ _ (after-from .from-of .ensures) (after-to .to-of .ensures) is-span (omega (arith, is-span, span))
           (after-meet .meet .ensures) (done .0) (done .1),
     )
 

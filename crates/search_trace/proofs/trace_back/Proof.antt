@@ -9,11 +9,11 @@ use Rattle.search_trace.proofs.trace_back.Statement.{statement}
 use Rattle.search_trace.proofs.trace_back.Tie as tie
 
 abbrev Inv-loop : tie.InvT-loop
-Inv-loop states moves frees allowed reached n k tick goal arrival path₀ s₀ t₀ count₀ path s t count =
-    Going n k states moves frees allowed reached tick goal arrival s t (stepsIn path count)
+Inv-loop states motions frees allowed reached n k tick goal arrival path₀ s₀ t₀ count₀ path s t count =
+    Going n k states motions frees allowed reached tick goal arrival s t (stepsIn path count)
 
 abbrev μ-loop : tie.MeasureT-loop
-μ-loop states moves frees allowed reached n k tick goal arrival path₀ s₀ t₀ count₀ path s t count =
+μ-loop states motions frees allowed reached n k tick goal arrival path₀ s₀ t₀ count₀ path s t count =
     t - tick
 
 -- the places that the answers look back to
@@ -26,7 +26,7 @@ head w = w .before .before
 -- the motion of a word that is not 2
 motion : (c : tie.Else1 Inv-loop μ-loop)
     → Motion (start (head (c .before)) .args .n) (start (head (c .before)) .args .k) (start (head (c .before)) .args .states .now)
-    (start (head (c .before)) .args .moves .now) (start (head (c .before)) .args .frees .now) (start (head (c .before)) .args .allowed .now)
+    (start (head (c .before)) .args .motions .now) (start (head (c .before)) .args .frees .now) (start (head (c .before)) .args .allowed .now)
     (start (head (c .before)) .args .reached .now) (start (head (c .before)) .args .tick) (start (head (c .before)) .args .goal)
     (start (head (c .before)) .args .arrival) (head (c .before) .loop .t) (c .before .word-at .result)
 motion c =

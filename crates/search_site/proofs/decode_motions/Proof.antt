@@ -1,4 +1,4 @@
--- `search_site::decode_moves` meets its contract.
+-- `search_site::decode_motions` meets its contract.
 -- Assumes nothing.
 use Prim.Native.Nat.{ℕ, _+_, _*_, _-_, _≤_, _<_}
 use mathlib.Core.Path.{_≡_, refl, sym, ap, _∙_, subst}
@@ -10,15 +10,15 @@ use Rattle.site_read.proofs.Laws.{read-laid}
 use Rattle.search_site.specs.Decoded.{MotionDecoded, motionIn}
 use Rattle.search_site.proofs.ArrayLaws.{motions-more, set-motion-length}
 use Rattle.search_site.proofs.DecodedLaws.{well, motion-fits}
-use Rattle.search_site.proofs.decode_moves.Statement.{statement}
-use Rattle.search_site.proofs.decode_moves.Tie as tie
+use Rattle.search_site.proofs.decode_motions.Statement.{statement}
+use Rattle.search_site.proofs.decode_motions.Tie as tie
 
 abbrev Inv-loop : tie.InvT-loop
-Inv-loop file start count index moves₀ m₀ moves m =
-    (m ≤ count) × (length moves ≡ 10000) × ((k : ℕ) → k < m → MotionDecoded file k (motionIn moves k))
+Inv-loop file start count index motions₀ m₀ motions m =
+    (m ≤ count) × (length motions ≡ 10000) × ((k : ℕ) → k < m → MotionDecoded file k (motionIn motions k))
 
 abbrev μ-loop : tie.MeasureT-loop
-μ-loop file start count index moves₀ m₀ moves m = count - m
+μ-loop file start count index motions₀ m₀ motions m = count - m
 
 motion-index-requires : tie.Need-motion-index-requires Inv-loop μ-loop
 motion-index-requires c κs =
@@ -35,8 +35,8 @@ motion-at-requires c κs =
     let n = b .pre .1 in
     (read-laid (b .args .file .now) _ (b .pre .0 .0), c .before .before .before .before .motion-index .ensures, omega arith)
 
-put-move-requires : tie.Need-put-move-requires Inv-loop μ-loop
-put-move-requires c κs =
+put-motion-requires : tie.Need-put-motion-requires Inv-loop μ-loop
+put-motion-requires c κs =
     let b = c .before .before .before .before .before .before .before in
     let f = b .args .file .now in
     let e = b .pre .0 .0 in
@@ -58,12 +58,12 @@ loop-again c =
     let few = well f (b .pre .0 .0) .motions-range in
     let l = c .before .before .before .before .before .loop in
     let m = l .m in
-    let old = l .moves in
+    let old = l .motions in
     let size = l .inv .1 in
     let r = c .before .motion-at .result in
     let ok = c .before .motion-at .ok in
     let decoded : MotionDecoded f m r = record { shows = c .before .motion-at .ensures; span = omega (arith, ok) } in
-    let put = c .put-move .ensures in (
+    let put = c .put-motion .ensures in (
       omega arith,
       ap length put ∙ set-motion-length old (m * 5) r ∙ size,
       subst (λ (xs : List ℕ). (k : ℕ) → k < m + 1 → MotionDecoded f k (motionIn xs k)) (sym put)
@@ -73,8 +73,8 @@ loop-again c =
 returns : tie.Need-returns Inv-loop μ-loop
 returns c = let n = c .before .before .before .before .pre .1 in λ m h. c .before .loop .inv .2 m (omega arith)
 
-pub decode-moves-spec : {M : Type 1} → statement M
-decode-moves-spec =
+pub decode-motions-spec : {M : Type 1} → statement M
+decode-motions-spec =
     tie.close
     (tie.spec
     Inv-loop
@@ -82,7 +82,7 @@ decode-moves-spec =
     motion-index-requires
     loop-holds
     motion-at-requires
-    put-move-requires
+    put-motion-requires
     add-m
     loop-less
     loop-again
