@@ -12,7 +12,7 @@ ghost use mathlib.Core.Path.{_≡_};
 ghost use lib.ListN.{length};
 ghost use Rattle.io.specs.Counts.{Counts};
 ghost use Rattle.meaning.specs.Limits.{fieldHeader, header, routeSize, dayArea};
-ghost use Rattle.day_turns.specs.Turns.{Areas};
+ghost use Rattle.day_calls.specs.Performed.{Areas};
 
 // One byte more than a site file may have, so that a longer one is seen.
 const FILE: usize = site::FILE_LIMIT + 1;

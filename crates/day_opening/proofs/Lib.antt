@@ -1,1 +1,2 @@
+mod AreaLaws
 mod OpeningLaws

@@ -1,9 +1,13 @@
 // The opening of the day's board, in the part of its area that the site needs.
 use dispatch::Answer;
+use site::Check;
 ghost use mathlib.Core.Path.{_≡_};
-ghost use Prim.Native.Nat.{ℕ};
+ghost use Prim.Native.Nat.{ℕ, _≤_, min};
 ghost use lib.ListN.{length};
 ghost use Rattle.meaning.specs.Limits.{dayArea};
+ghost use Rattle.meaning.specs.Answers.{lowest};
+ghost use Rattle.meaning.specs.Site.{siteOf, siteRefusals};
+ghost use Rattle.meaning.specs.Board.{boardLength};
 ghost use Rattle.meaning.specs.Calls.{opening, onBoard, meant};
 ghost use Rattle.meaning.specs.Day.{dayBoard};
 ghost use Rattle.day_opening.specs.Opens.{startBy, Opens};
@@ -14,13 +18,30 @@ pub enum Opening {
     Refused(u8),
 }
 
+// How much of an area the site's board takes; nothing for a file that is refused.
+fn board_need(file: &[u8], room: usize) -> usize
+    ensures { λ r. ⌜ r ≤ room ⌝ }
+    ensures { λ r. ⌜ (lowest (siteRefusals (now (file .entry))) ≡ 0 → r ≡ min (boardLength (siteOf (now (file .entry)))) room) ⌝ }
+{
+    match site::check_site(file) {
+        Check::Passed(l) => {
+            let size = board::length_of(l.cells, l.horizon);
+            if room < size {
+                return room;
+            }
+            size
+        }
+        Check::Refused(_) => 0,
+    }
+}
+
 // Opens the part of the area that the site's board takes.
 pub fn start(file: &[u8], area: &mut [u8]) -> Opening
     requires { ⌜ length (now area) ≡ dayArea ⌝ }
     ensures { λ r. ⌜ r ≡ startBy (length (dayBoard (now (file .entry)))) (meant (now (file .entry)) (onBoard (dayBoard (now (file .entry)))) opening .number) ⌝ }
     ensures { λ r. ⌜ ((n : ℕ) → r ≡ Opening.Opened n → Opens n (now (area .exit)) (meant (now (file .entry)) (onBoard (dayBoard (now (file .entry)))) opening .lent .board)) ⌝ }
 {
-    let need = day_results::board_need(file, area.len());
+    let need = board_need(file, area.len());
     match dispatch::open(file, &mut area[..need]) {
         Answer::Accepted => Opening::Opened(need),
         Answer::Refused(n) => Opening::Refused(n),

@@ -1,14 +1,9 @@
-// What a call and a turn of the day come to, and the board's part of its area. Nothing here calls the desk,
-// so that this is proved without it.
+// What a call and a turn of the day come to. Nothing here calls the desk, so that this is proved without it.
 use answers::Answer;
 use answers::Granted;
-use site::Check;
 ghost use mathlib.Core.Path.{_≡_};
-ghost use Prim.Native.Nat.{_≤_, min};
+ghost use Prim.Native.Nat.{_≤_};
 ghost use Rattle.meaning.specs.Limits.{dayArea};
-ghost use Rattle.meaning.specs.Answers.{lowest};
-ghost use Rattle.meaning.specs.Site.{siteOf, siteRefusals};
-ghost use Rattle.meaning.specs.Board.{boardLength};
 ghost use Rattle.day_results.specs.Results.{changedResult, routedResult, lastTurn};
 
 // A call's number, the arrival of a granted route, and the length of the last granted light.
@@ -70,22 +65,5 @@ pub fn ended(light: usize, text: usize) -> Outcome
         going: false,
         light,
         text,
-    }
-}
-
-// How much of an area the site's board takes; nothing for a file that is refused.
-pub fn board_need(file: &[u8], room: usize) -> usize
-    ensures { λ r. ⌜ r ≤ room ⌝ }
-    ensures { λ r. ⌜ (lowest (siteRefusals (now (file .entry))) ≡ 0 → r ≡ min (boardLength (siteOf (now (file .entry)))) room) ⌝ }
-{
-    match site::check_site(file) {
-        Check::Passed(l) => {
-            let size = board::length_of(l.cells, l.horizon);
-            if room < size {
-                return room;
-            }
-            size
-        }
-        Check::Refused(_) => 0,
     }
 }

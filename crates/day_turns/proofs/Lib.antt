@@ -1,3 +1,1 @@
-pub mod AreaLaws
-pub mod Laws
-pub mod TurnLaws
+mod TurnLaws

@@ -20,7 +20,8 @@ use Rattle.day_orders.proofs.Laws.{entry-call, not-end}
 use Rattle.day_results.specs.declared.CallResult.{CallResult}
 use Rattle.day_results.specs.declared.Outcome.{Outcome}
 use Rattle.day_results.specs.Results.{lastTurn}
-use Rattle.day_turns.specs.Turns.{dayAt, Performed, LineWritten, dayIf, Turned}
+use Rattle.day_calls.specs.Performed.{dayAt, Performed}
+use Rattle.day_turns.specs.Turns.{LineWritten, dayIf, Turned}
 
 -- a call that was performed, with the line that is written after it
 pub line-written : (file : List ℕ) (d after : Day) (c : C.Call) (r : CallResult) (e text : ℕ) (line : List ℕ)

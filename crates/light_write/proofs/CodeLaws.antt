@@ -13,8 +13,8 @@ use Rattle.meaning.specs.Fields.{fieldBytes}
 use Rattle.meaning.specs.Light.{Light, lightHead, stepField, encode}
 use Rattle.meaning.specs.Calls.{over}
 use Rattle.light.specs.Sizes.{firstStep, stepLength, lightLength}
-use Rattle.light_write.specs.Areas.{placed}
-use Rattle.light_write.proofs.AreaLaws.{placed-before, placed-front}
+use Rattle.light_fields.specs.Areas.{placed}
+use Rattle.light_fields.proofs.AreaLaws.{placed-before, placed-front}
 use Rattle.light_write.specs.Codes.{firstMove, stepOfCode, stepsIn, stepBytes}
 
 -- ---- codes

@@ -1,2 +1,1 @@
-pub mod AreaLaws
 pub mod CodeLaws

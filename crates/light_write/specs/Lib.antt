@@ -1,2 +1,1 @@
-pub mod Areas
 pub mod Codes

@@ -1,7 +1,7 @@
 -- `day_turns::perform_line` meets its contract.
 -- Assumes nothing.
 use borrow.Author.Needs.{needs}
-use Rattle.day_turns.specs.Turns.{dayAt}
+use Rattle.day_calls.specs.Performed.{dayAt}
 use Rattle.day_turns.proofs.TurnLaws.{line-written}
 use Rattle.day_turns.proofs.perform_line.Statement.{statement}
 use Rattle.day_turns.proofs.perform_line.Tie as tie

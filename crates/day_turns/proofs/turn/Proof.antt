@@ -3,7 +3,7 @@
 use mathlib.Core.Path.{sym, _∙_}
 use borrow.Author.Needs.{needs}
 use Rattle.meaning.specs.Fields.{fields}
-use Rattle.day_turns.specs.Turns.{dayAt}
+use Rattle.day_calls.specs.Performed.{dayAt}
 use Rattle.day_turns.proofs.TurnLaws.{turned-call, turned-bad, turned-end}
 use Rattle.day_turns.proofs.turn.Statement.{statement}
 use Rattle.day_turns.proofs.turn.Tie as tie

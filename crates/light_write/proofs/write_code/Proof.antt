@@ -4,7 +4,7 @@ use mathlib.Core.Path.{ap, _∙_}
 use Rattle.meaning.specs.Plan.{Step}
 use Rattle.meaning.specs.Fields.{fieldBytes}
 use Rattle.meaning.specs.Light.{stepField}
-use Rattle.light_write.specs.Areas.{placed}
+use Rattle.light_fields.specs.Areas.{placed}
 use Rattle.light_write.proofs.CodeLaws.{code-wait, code-move}
 use native.Mathlib.Omega.{arith}
 use borrow.Author.Needs.{needs}

@@ -12,7 +12,7 @@ use Rattle.meaning.specs.Basics.{put16}
 use Rattle.meaning.specs.Fields.{fieldBytes}
 use Rattle.meaning.specs.Calls.{over}
 use Rattle.light.specs.Sizes.{stepLength}
-use Rattle.light_write.specs.Areas.{tagged, placed}
+use Rattle.light_fields.specs.Areas.{tagged, placed}
 
 -- bytes copied to the front of what is left of the area from `at` on
 copied : (at : ℕ) (new area last : List ℕ) → last ≡ new ++ drop (length new) (take (length area - at) (drop at area))

@@ -1,4 +1,4 @@
--- `day_turns::perform` meets its contract.
+-- `day_calls::perform` meets its contract.
 -- Assumes nothing.
 use mathlib.Core.Path.{sym, ap}
 use borrow.Author.Needs.{needs}
@@ -7,9 +7,9 @@ use lib.Seq.{length-take-le}
 use native.Mathlib.Omega.{arith}
 use Rattle.meaning.specs.Calls.{close, withdraw, post}
 use Rattle.day_orders.specs.Orders.{callBy}
-use Rattle.day_turns.proofs.Laws.{changed-performed, routed-performed}
-use Rattle.day_turns.proofs.perform.Statement.{statement}
-use Rattle.day_turns.proofs.perform.Tie as tie
+use Rattle.day_calls.proofs.Laws.{changed-performed, routed-performed}
+use Rattle.day_calls.proofs.perform.Statement.{statement}
+use Rattle.day_calls.proofs.perform.Tie as tie
 
 enum-known-o : tie.Need-enum-known-o
 enum-known-o c = search needs

@@ -1,11 +1,11 @@
--- `light_write::write_head` meets its contract.
+-- `light_fields::write_head` meets its contract.
 -- Assumes nothing.
 use Prim.Native.Nat.{_/_, _%_}
 use mathlib.Core.Path.{_≡_, _∙_}
 use native.Mathlib.Omega.{arith}
 use borrow.Author.Needs.{needs}
-use Rattle.light_write.proofs.write_head.Statement.{statement}
-use Rattle.light_write.proofs.write_head.Tie as tie
+use Rattle.light_fields.proofs.write_head.Statement.{statement}
+use Rattle.light_fields.proofs.write_head.Tie as tie
 
 cast-upper : tie.Need-cast-upper
 cast-upper c = search needs

@@ -16,8 +16,8 @@ use Rattle.answers.proofs.Laws.{answer-number}
 use Rattle.desk_route.proofs.Laws.{granted-number, granted-values}
 use Rattle.day_results.specs.declared.CallResult.{CallResult}
 use Rattle.day_results.specs.Results.{changedResult, routedResult}
-use Rattle.day_turns.specs.Turns.{dayAt, Performed}
-use Rattle.day_turns.proofs.AreaLaws.{Alike, areas-alike, route-board, no-light}
+use Rattle.day_calls.specs.Performed.{dayAt, Performed}
+use Rattle.day_calls.proofs.AreaLaws.{Alike, areas-alike, route-board, no-light}
 
 -- a call of the day is one among areas of zeros
 day-done : (file : List ℕ) (d : Day) (c : Call) → dayDone file d c ≡ meant file (lends (d .board) (replicate dayArea 0) (replicate dayWords 0)) (listed c)

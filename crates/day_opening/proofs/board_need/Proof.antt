@@ -1,4 +1,4 @@
--- `day_results::board_need` meets its contract.
+-- `day_opening::board_need` meets its contract.
 -- Assumes nothing.
 use native.Mathlib.Omega.{arith}
 use mathlib.Core.Path.{_≡_, sym, _∙_}
@@ -6,9 +6,9 @@ use borrow.Author.Needs.{needs}
 use Rattle.meaning.specs.Site.{readSite}
 use Rattle.site.specs.Check.{checkOf}
 use Rattle.site.specs.declared.Check.the-variants as Check
-use Rattle.day_results.proofs.Laws.{small, takes-all, takes-part, not-read}
-use Rattle.day_results.proofs.board_need.Statement.{statement}
-use Rattle.day_results.proofs.board_need.Tie as tie
+use Rattle.day_opening.proofs.AreaLaws.{small, takes-all, takes-part, not-read}
+use Rattle.day_opening.proofs.board_need.Statement.{statement}
+use Rattle.day_opening.proofs.board_need.Tie as tie
 
 -- where the function began, from the arm of an accepted file
 abbrev start : tie.After-l → tie.Start

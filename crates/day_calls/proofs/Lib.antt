@@ -1,0 +1,2 @@
+mod AreaLaws
+mod Laws
