@@ -6,6 +6,7 @@ use mathlib.Core.Path.{_≡_, sym, ap, _∙_}
 use mathlib.Core.Option.{Option, none, some}
 use mathlib.Core.List.{List}
 use lib.ListN.{length}
+use Rattle.meaning.specs.Limits.{horizonLimit}
 use Rattle.meaning.specs.Site.{siteOf}
 use Rattle.meaning.specs.Board.{free, edition}
 use Rattle.meaning.specs.Reach.{Route}
@@ -34,7 +35,7 @@ module _ (file board : List ℕ) (l : Sizes) (trip : Trip) (q : Asked file l (le
     unfolding Planned
     route-is = plan
 
-    pub fits : (count ≤ 1000) × (arrival ≤ 1000) × (lightLength count ≤ lightRoom (siteOf file))
+    pub fits : (count ≤ horizonLimit) × (arrival ≤ horizonLimit) × (lightLength count ≤ lightRoom (siteOf file))
     fits =
         let (laid, named, late, in-time) = found-steps (siteOf file) (well file (q .ready .read)) (free (siteOf file) board) (node (trip .start) (trip .tick)) (trip .goal) route route-is in
         let many = length-steps path count in

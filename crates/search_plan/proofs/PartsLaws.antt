@@ -8,7 +8,7 @@ use mathlib.Core.Option.{none, some}
 use mathlib.Core.List.{List}
 use lib.Dec.{leb}
 use lib.ListN.{length}
-use Rattle.meaning.specs.Limits.{horizonLimit, cellLimit, stateLimit, header}
+use Rattle.meaning.specs.Limits.{horizonLimit, cellLimit, stateLimit, header, motionLimit}
 use Rattle.meaning.specs.Site.{Site, siteOf}
 use Rattle.meaning.specs.WellFormed.{WellFormed}
 use Rattle.meaning.specs.Board.{Free, free}
@@ -38,7 +38,7 @@ pub record Ranges (l : Sizes) (trip : Trip) : Type 0 where
   pub start-below : trip .start < l .states
   pub goal-below : trip .goal < l .states
   pub states-few : l .states ≤ stateLimit
-  pub motions-few : l .motions ≤ 2000
+  pub motions-few : l .motions ≤ motionLimit
 
 -- the arrays and rows are the sets of the search on the board
 abbrev pub SetsOn : List ℕ → List ℕ → Sizes → Trip → List ℕ → List ℕ → List ℕ → List ℕ → List ℕ → Type 0

@@ -12,7 +12,7 @@ use Rattle.meaning.specs.WellFormed.{WellFormed}
 use Rattle.meaning.proofs.BasicsLaws.{each-at}
 use Rattle.meaning.proofs.SiteLaws.{read-well, read-passes}
 use Rattle.meaning.proofs.MotionLaws.{good-at, cell-known}
-use Rattle.search_sizes.specs.Sizes.{stateNumbers, motionNumbers}
+use Rattle.search_sizes.specs.Sizes.{cellRows, stateNumbers, motionNumbers}
 use Rattle.site_sweeps.specs.Places.{sweepAt}
 use Rattle.site_sweeps.proofs.Laws.{sweeps-length, sweeps-at}
 use Rattle.site_read.specs.declared.Motion as ReadMotion
@@ -48,16 +48,16 @@ module _ (file : List ℕ) (e : readSite file ≡ accepted (siteOf file)) where
         record { from = omega arith; to = omega arith; first = omega arith; count = omega arith }
 
     -- each of its sweeps, where it stands in the file
-    sweep-fits : (j : ℕ) → j < r .count → let w = sweepAt file (r .first + sweepSize * j) in (w .cell < 256) × (w .first ≤ w .last)
+    sweep-fits : (j : ℕ) → j < r .count → let w = sweepAt file (r .first + sweepSize * j) in (w .cell < cellRows) × (w .first ≤ w .last)
     sweep-fits j q =
         let ws = motionAt site m .sweeps in
         let none : Sweep = record { cell = 0; first = 0; last = 0 } in
         let c = sweeps-count in
         let fit = each-at _ ws none (good-at site well m h .sweeps-fit) j (omega arith) in
         let few = well .cells-range .1 in
-        let below : getD ws j none .cell < 256 = omega arith in
+        let below : getD ws j none .cell < cellRows = omega arith in
         let here = ap (λ (l : List Sweep). getD l j none) (sym (shows .sweeps)) ∙ sweeps-at j (r .count) file (r .first) none q (shows .inside) in
-        subst (λ (w : Sweep). (w .cell < 256) × (w .first ≤ w .last)) here (below, fit .1)
+        subst (λ (w : Sweep). (w .cell < cellRows) × (w .first ≤ w .last)) here (below, fit .1)
 
     sweeps-in : SweepsIn file (r .first) (r .count)
     sweeps-in = record { long = shows .inside; cell = λ j q. sweep-fits j q .0; order = λ j q. sweep-fits j q .1 }

@@ -4,6 +4,7 @@ use Prim.Native.Nat.{_≤_}
 use mathlib.Core.Path.{subst}
 use native.Mathlib.Omega.{arith}
 use borrow.Author.Needs.{needs}
+use Rattle.meaning.specs.Limits.{horizonLimit}
 use Rattle.meaning.specs.Site.{siteOf}
 use Rattle.meaning.specs.Calls.{lightRoom}
 use Rattle.light.specs.Sizes.{lightLength}
@@ -23,7 +24,7 @@ plan : (c : tie.After-count)
 plan c = subst (Planned _ _) (c .count .given .1) (c .before .before .search .ensures)
 
 plan-fits : (c : tie.After-count)
-    → (c .count .given .0 .0 ≤ 1000) × (c .count .given .0 .1 .0 ≤ 1000) × (lightLength (c .count .given .0 .0) ≤ lightRoom (siteOf (start c .args .file .now)))
+    → (c .count .given .0 .0 ≤ horizonLimit) × (c .count .given .0 .1 .0 ≤ horizonLimit) × (lightLength (c .count .given .0 .0) ≤ lightRoom (siteOf (start c .args .file .now)))
 plan-fits c = fits _ (start c .args .board .now) _ _ (start c .pre .0) _ _ _ (plan c)
 
 search-requires : tie.Need-search-requires

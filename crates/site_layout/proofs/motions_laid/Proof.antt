@@ -4,6 +4,7 @@ use borrow.Author.Needs.{needs}
 use mathlib.Core.Path.{sym, _∙_, ap}
 use Prim.Native.Nat.{ℕ}
 use lib.Dec.{leb}
+use Rattle.meaning.specs.Limits.{motionLimit}
 use Rattle.meaning.specs.Site.{motionsLaid}
 use Rattle.site_layout.proofs.motions_laid.Statement.{statement}
 use Rattle.site_layout.proofs.motions_laid.Tie as tie
@@ -16,7 +17,7 @@ count-fields-requires c κs = search needs
 
 returns : tie.Need-returns
 unfolding motionsLaid
-returns c = simp (sym (c .before .before .all-motions .ensures) ∙ c .before .if1 .taken) (ap (λ (n : ℕ). leb n 2000) (c .count-fields .ensures))
+returns c = simp (sym (c .before .before .all-motions .ensures) ∙ c .before .if1 .taken) (ap (λ (n : ℕ). leb n motionLimit) (c .count-fields .ensures))
 
 returns-2 : tie.Need-returns-2
 unfolding motionsLaid

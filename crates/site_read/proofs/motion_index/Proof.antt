@@ -3,6 +3,7 @@
 use Prim.Native.Nat.{ℕ, _<_, _-_}
 use mathlib.Core.Path.{_≡_, refl, _∙_}
 use lib.ListN.{length, getD, length-set}
+use Rattle.meaning.specs.Limits.{motionLimit}
 use Rattle.meaning.specs.Site.{siteOf}
 use Rattle.site_read.specs.Motions.{MotionPlace}
 use Rattle.site_read.proofs.Laws.{Reached, reached-first, reached-next, reached-inside, reached-place, laid-few, filled}
@@ -12,7 +13,7 @@ use Rattle.site_read.proofs.motion_index.Statement.{statement}
 use Rattle.site_read.proofs.motion_index.Tie as tie
 
 abbrev Inv-loop : tie.InvT-loop
-Inv-loop file start motions index₀ at₀ n₀ index at n = Reached file at n × (length index ≡ 2000) × ((k : ℕ) → k < n → MotionPlace file k (getD index k 0))
+Inv-loop file start motions index₀ at₀ n₀ index at n = Reached file at n × (length index ≡ motionLimit) × ((k : ℕ) → k < n → MotionPlace file k (getD index k 0))
 
 abbrev μ-loop : tie.MeasureT-loop
 μ-loop file start motions index₀ at₀ n₀ index at n = motions - n
