@@ -1,4 +1,4 @@
--- `search_runs::fill_runs` meets its contract: the rows below the one that is doubled last are done.
+-- `search_runs::fill_runs` meets its contract: the rows below row r of the next level are done.
 -- Assumes nothing.
 use Prim.Native.Nat.{_+_, _-_, _≤_}
 use Rattle.search_sizes.specs.Sizes.{levelRows, doubledRows}
