@@ -18,6 +18,10 @@ pub fn transcript(site: Option<&[u8]>, script: &[u8]) -> String {
     if opened.number != 0 {
         return format!("{} 0 0\n", opened.number);
     }
+    // A shift without movements.
+    if script.is_empty() {
+        return "0 0 0\n".to_string();
+    }
     let mut text = String::new();
     let mut light = Vec::new();
     let mut rest = script;

@@ -1,4 +1,4 @@
-//! The day program as an executable against an independent reading of document 01.
+//! The day program as an executable against an independent reading of document 01 and of request 1 of document 02.
 
 use dispatch_tests::gen::{self, Rng, Size};
 use dispatch_tests::literal::{encode, put};
@@ -6,7 +6,8 @@ use dispatch_tests::{day, four};
 use std::fs;
 use std::io::Write;
 use std::path::{Path, PathBuf};
-use std::process::{Command, Stdio};
+use std::process::{Child, Command, Stdio};
+use std::time::Duration;
 
 fn program() -> PathBuf {
     #[cfg(feature = "standin")]
@@ -23,27 +24,37 @@ fn folder(name: &str) -> PathBuf {
     folder
 }
 
-/// What the program prints in a folder, and that it ends well.
-fn output(folder: &Path, script: &[u8]) -> String {
+fn start(folder: &Path, input: Stdio) -> Child {
     let program = program();
-    let mut child = Command::new(&program)
+    Command::new(&program)
         .current_dir(folder)
-        .stdin(Stdio::piped())
+        .stdin(input)
         .stdout(Stdio::piped())
         .stderr(Stdio::piped())
         .spawn()
-        .unwrap_or_else(|error| panic!("{} does not start: {error}", program.display()));
+        .unwrap_or_else(|error| panic!("{} does not start: {error}", program.display()))
+}
+
+/// What a started program prints, and that it ends well.
+fn printed(child: Child) -> String {
+    let done = child.wait_with_output().unwrap();
+    assert!(done.status.success(), "the day program ends with {}", done.status);
+    assert!(done.stderr.is_empty(), "the day program writes to standard error");
+    String::from_utf8(done.stdout).unwrap()
+}
+
+/// What the program prints in a folder.
+fn output(folder: &Path, script: &[u8]) -> String {
+    let mut child = start(folder, Stdio::piped());
     let mut input = child.stdin.take().unwrap();
     let script = script.to_vec();
     // In a thread, as the program may print before it has read everything, or end early.
     let writer = std::thread::spawn(move || {
         let _ = input.write_all(&script);
     });
-    let done = child.wait_with_output().unwrap();
+    let text = printed(child);
     writer.join().unwrap();
-    assert!(done.status.success(), "the day program ends with {}", done.status);
-    assert!(done.stderr.is_empty(), "the day program writes to standard error");
-    String::from_utf8(done.stdout).unwrap()
+    text
 }
 
 fn agree(folder: &Path, site: Option<&[u8]>, script: &[u8], what: &str) {
@@ -71,6 +82,58 @@ fn worked_example() {
     let folder = folder("worked");
     fs::write(folder.join("site.bin"), four::bytes()).unwrap();
     assert_eq!(output(&folder, &worked_script()), "0 1 0\n0 1 10\n0 2 0\n");
+}
+
+/// Request 1, by its text: what is printed is written out here, and not taken from `src/day.rs`.
+#[test]
+fn quiet_shift() {
+    let folder = folder("quiet");
+    let site_bin = folder.join("site.bin");
+    let site = four::bytes();
+    fs::write(&site_bin, &site).unwrap();
+    assert_eq!(output(&folder, &[]), "0 0 0\n", "an empty script");
+    assert_eq!(printed(start(&folder, Stdio::null())), "0 0 0\n", "the null device");
+    for byte in [0, 10, 32, 33, 34, 35, 255] {
+        assert_eq!(output(&folder, &[byte]), "99 0 0\n", "the single byte {byte}");
+    }
+    let script = worked_script();
+    assert_eq!(output(&folder, &script[..9]), "0 1 0\n", "a close field");
+    // A refused open prints its own line, also with an empty script.
+    fs::write(&site_bin, &site[..99]).unwrap();
+    assert_eq!(output(&folder, &[]), "2 0 0\n", "a cut site.bin");
+    fs::remove_file(&site_bin).unwrap();
+    assert_eq!(output(&folder, &[]), "3 0 0\n", "no site.bin");
+}
+
+/// Nothing is printed before the script has come to its end or has a field.
+#[test]
+fn late_script() {
+    let folder = folder("late");
+    fs::write(folder.join("site.bin"), four::bytes()).unwrap();
+    for script in [&[][..], &worked_script()[..9]] {
+        let mut child = start(&folder, Stdio::piped());
+        let mut input = child.stdin.take().unwrap();
+        for byte in script {
+            std::thread::sleep(Duration::from_millis(20));
+            assert!(child.try_wait().unwrap().is_none(), "the day program ends before its script");
+            input.write_all(&[*byte]).unwrap();
+        }
+        std::thread::sleep(Duration::from_millis(100));
+        assert!(child.try_wait().unwrap().is_none(), "the day program ends before its script");
+        drop(input);
+        assert_eq!(printed(child), if script.is_empty() { "0 0 0\n" } else { "0 1 0\n" });
+    }
+}
+
+/// A script that cannot be read is no empty one.
+#[test]
+fn unreadable_script() {
+    let folder = folder("unreadable");
+    fs::write(folder.join("site.bin"), four::bytes()).unwrap();
+    let of_folder = fs::File::open(&folder).unwrap();
+    assert_eq!(printed(start(&folder, of_folder.into())), "99 0 0\n", "a folder");
+    let write_only = fs::File::create(folder.join("written")).unwrap();
+    assert_eq!(printed(start(&folder, write_only.into())), "99 0 0\n", "a file open for writing");
 }
 
 #[test]

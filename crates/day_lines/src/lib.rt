@@ -1,10 +1,10 @@
-// The text of a line that the day program prints: three numbers in decimal digits.
+// The text of a line that the day program prints, three numbers in decimal digits, and what it prints at the script's end.
 ghost use mathlib.Core.Path.{_≡_};
 ghost use mathlib.Core.List.{[], _∷_, _++_};
 ghost use Prim.Native.Nat.{_+_, _≤_, _<_};
 ghost use lib.ListN.{length, take};
 ghost use Rattle.io.specs.Counts.{Counts};
-ghost use Rattle.meaning.specs.Day.{decimal, textOf};
+ghost use Rattle.meaning.specs.Day.{decimal, textOf, texts, endLines};
 
 // The longest line has three numbers of 20 digits, two blanks and the line's end.
 pub const LINE: usize = 64;
@@ -45,4 +45,15 @@ pub fn write_line(line: &mut [u8; LINE], number: u64, edition: u64, arrival: u64
     let arrival_start = put_byte(line, edition_end, BLANK);
     let arrival_end = put_number(line, arrival_start, arrival);
     put_byte(line, arrival_end, LINE_END)
+}
+
+// Writes what is printed at the script's end: a line if the first turn finds it, as the script is empty then. Answers its length.
+pub fn write_end(line: &mut [u8; LINE], first: bool) -> usize
+    ensures { λ r. ⌜ Counts r (now (line .exit)) ⌝ }
+    ensures { λ r. ⌜ take r (now (line .exit)) ≡ texts (endLines first) ⌝ }
+{
+    if first {
+        return write_line(line, 0, 0, 0);
+    }
+    0
 }

@@ -8,12 +8,13 @@ use mathlib.Core.List.{List, [], _∷_, _++_}
 use lib.Dec.{eqb}
 use lib.ListN.{length, take, drop, replicate, length-take, length-append, length-replicate}
 use lib.Seq.{take-at}
+use Rattle.io.specs.Counts.{Counts}
 use Rattle.meaning.specs.Limits.{dayArea}
 use Rattle.meaning.specs.Answers.{_if_, lowest}
 use Rattle.meaning.specs.Site.{siteOf, siteRefusals}
 use Rattle.meaning.specs.Board.{boardLength}
 use Rattle.meaning.specs.Calls.{opening, onBoard, refusals, Done, acceptedDone, meant}
-use Rattle.meaning.specs.Day.{dayBoard}
+use Rattle.meaning.specs.Day.{line, dayBoard, textOf}
 use Rattle.meaning.proofs.AnswersLaws.{Passed, lowest-clear}
 use Rattle.meaning.proofs.CallLaws as CallLaws
 use Rattle.meaning.proofs.CheckLaws.{site-refused}
@@ -21,7 +22,7 @@ use Rattle.answers.specs.declared.Answer.the-variants as A
 use Rattle.answers.specs.Answers.{numberOf, answerOf}
 use Rattle.answers.proofs.Laws.{answer-number}
 use Rattle.day_opening.specs.declared.Opening.the-variants.{Opened, Refused}
-use Rattle.day_opening.specs.Opens.{startBy, Opens}
+use Rattle.day_opening.specs.Opens.{Opens, Refuses}
 
 -- ---- the number
 
@@ -74,12 +75,9 @@ module _ (file area : List ℕ) (need : ℕ) (inside : length (take need area) �
     whole : length board ≡ size
     whole = same-size (read file board number-zero)
 
-    pub opened : Opened need ≡ startBy size (meant file (onBoard (dayBoard file)) opening .number)
-    opened = ap Opened (sym inside ∙ whole) ∙ sym (ap (startBy size) (sym number ∙ number-zero))
-
-    pub opened-front : (new : List ℕ) → new ≡ meant file (onBoard board) opening .lent .board → (n : ℕ) → Opened need ≡ Opened n
-        → Opens n (new ++ drop need area) (meant file (onBoard (dayBoard file)) opening .lent .board)
-    opened-front new w n o =
+    pub opened : (new : List ℕ) → new ≡ meant file (onBoard board) opening .lent .board → (n : ℕ) → Opened need ≡ Opened n
+        → Opens file n (new ++ drop need area)
+    opened new w n o =
         let same : need ≡ n = cc in
         let zeros : new ≡ replicate (length board) 0 = w ∙ opened-board file board number-zero in
         let long : length new ≡ need = ap length zeros ∙ length-replicate {A = ℕ} (length board) 0 ∙ inside in
@@ -87,17 +85,26 @@ module _ (file area : List ℕ) (need : ℕ) (inside : length (take need area) �
         let joined = length-append new (drop need area) in
         rw (← same)
         (record {
+          number = sym number ∙ number-zero;
           has-edition = omega arith;
           inside = omega arith;
           front = take-at new (drop need area) need long ∙ zeros ∙ ap (λ (k : ℕ). replicate k 0) whole ∙ sym (opened-board file (dayBoard file) (sym number ∙ number-zero));
         })
 
-  by-number : (n k : ℕ) → A.Refused n ≡ answerOf k → Refused n ≡ startBy size k
+  by-number : (n k : ℕ) → A.Refused n ≡ answerOf k → (k ≡ 0 → ⊥) × (n ≡ k)
   by-number n zero e = absurd (let y : _≡_ {A = ℕ} 0 1 = cc in omega arith)
-  by-number n (suc k) e = let same : n ≡ suc k = cc in ap Refused same
+  by-number n (suc k) e = (λ z. omega arith, cc)
 
-  pub refused-start : (n : ℕ) → A.Refused n ≡ answerOf (meant file (onBoard board) opening .number) → Refused n ≡ startBy size (meant file (onBoard (dayBoard file)) opening .number)
-  refused-start n e = by-number n (meant file (onBoard (dayBoard file)) opening .number) (e ∙ ap answerOf number)
+  pub refused : (n : ℕ) → A.Refused n ≡ answerOf (meant file (onBoard board) opening .number)
+      → (text : ℕ) (new : List ℕ) → Counts text new → take text new ≡ textOf (line n 0 0)
+      → (k : ℕ) → Refused text ≡ Refused k → Refuses file k new
+  refused n e text new counted front k o =
+      let same : text ≡ k = cc in
+      let (some, told) = by-number n (meant file (onBoard (dayBoard file)) opening .number) (e ∙ ap answerOf number) in
+      rw (← same) (record { number = some; counted = counted; front = front ∙ ap (λ (m : ℕ). textOf (line m 0 0)) told })
+
+pub not-refused : {X : Type 0} (m n : ℕ) → Opened m ≡ Refused n → X
+not-refused m n e = absurd (let y : _≡_ {A = ℕ} 0 1 = cc in omega arith)
 
 pub not-opened : {X : Type 0} (m n : ℕ) → Refused m ≡ Opened n → X
 not-opened m n e = absurd (let y : _≡_ {A = ℕ} 0 1 = cc in omega arith)

@@ -1,4 +1,5 @@
-// The opening of the day's board, in the part of its area that the site needs.
+// The opening of the day's board, in the part of its area that the site needs, or the line of its refusal.
+use day_lines::LINE;
 use dispatch::Answer;
 use site::Check;
 ghost use mathlib.Core.Path.{_≡_};
@@ -8,14 +9,12 @@ ghost use Rattle.meaning.specs.Limits.{dayArea};
 ghost use Rattle.meaning.specs.Answers.{lowest};
 ghost use Rattle.meaning.specs.Site.{siteOf, siteRefusals};
 ghost use Rattle.meaning.specs.Board.{boardLength};
-ghost use Rattle.meaning.specs.Calls.{opening, onBoard, meant};
-ghost use Rattle.meaning.specs.Day.{dayBoard};
-ghost use Rattle.day_opening.specs.Opens.{startBy, Opens};
+ghost use Rattle.day_opening.specs.Opens.{Opens, Refuses};
 
-// What opening the board came to: its length, or the refusal.
+// What opening the board came to: its length, or that of the refusal's line.
 pub enum Opening {
     Opened(usize),
-    Refused(u8),
+    Refused(usize),
 }
 
 // How much of an area the site's board takes; nothing for a file that is refused.
@@ -35,15 +34,18 @@ fn board_need(file: &[u8], room: usize) -> usize
     }
 }
 
-// Opens the part of the area that the site's board takes.
-pub fn start(file: &[u8], area: &mut [u8]) -> Opening
+// Opens the part of the area that the site's board takes. A refusal's line is written at the front of `line`.
+pub fn start(file: &[u8], area: &mut [u8], line: &mut [u8; LINE]) -> Opening
     requires { ⌜ length (now area) ≡ dayArea ⌝ }
-    ensures { λ r. ⌜ r ≡ startBy (length (dayBoard (now (file .entry)))) (meant (now (file .entry)) (onBoard (dayBoard (now (file .entry)))) opening .number) ⌝ }
-    ensures { λ r. ⌜ ((n : ℕ) → r ≡ Opening.Opened n → Opens n (now (area .exit)) (meant (now (file .entry)) (onBoard (dayBoard (now (file .entry)))) opening .lent .board)) ⌝ }
+    ensures { λ r. ⌜ ((n : ℕ) → r ≡ Opening.Opened n → Opens (now (file .entry)) n (now (area .exit))) ⌝ }
+    ensures { λ r. ⌜ ((n : ℕ) → r ≡ Opening.Refused n → Refuses (now (file .entry)) n (now (line .exit))) ⌝ }
 {
     let need = board_need(file, area.len());
     match dispatch::open(file, &mut area[..need]) {
         Answer::Accepted => Opening::Opened(need),
-        Answer::Refused(n) => Opening::Refused(n),
+        Answer::Refused(n) => {
+            let number = n as u64;
+            Opening::Refused(day_lines::write_line(line, number, 0, 0))
+        }
     }
 }

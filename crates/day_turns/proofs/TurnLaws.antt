@@ -12,7 +12,7 @@ use Rattle.meaning.specs.Limits.{dayArea}
 use Rattle.meaning.specs.Fields.{Fields, end, cut, next}
 use Rattle.meaning.specs.Board.{edition}
 use Rattle.meaning.specs.Calls as C
-use Rattle.meaning.specs.Day.{badLine, callOf, Day, dayDone, lineOf, lineThen, textOf, texts, dayBy}
+use Rattle.meaning.specs.Day.{badLine, callOf, Day, dayDone, lineOf, lineThen, textOf, texts, endLines, dayBy}
 use Rattle.day_orders.specs.declared.Order.{Order}
 use Rattle.day_orders.specs.declared.Entry.the-variants.{Call, Bad, End}
 use Rattle.day_orders.specs.Orders.{entryOf, callBy, entryCall}
@@ -36,14 +36,14 @@ line-written file d after c r e text line p few same n w = record {
   day = p .day;
 }
 
-module _ (file : List ℕ) (d : Day) (line : List ℕ) where
+module _ (file : List ℕ) (first : Bool) (d : Day) (line : List ℕ) where
   -- a field that is a call
   by-call : (o : Option C.Call) (c : C.Call) (r : Outcome) (after : Day) → o ≡ some c → LineWritten file d c r line after
       → (take (r .text) line ≡ texts (lineThen file d o (λ (d′ : Day). []))) × (dayIf (r .going) after ≡ dayBy file d o)
   by-call o c r after e b =
       rw e (b .text ∙ sym (append-nil (textOf (lineOf (dayDone file d c)))), ap (λ (g : Bool). dayIf g after) (b .going) ∙ ap some (b .day))
 
-  pub turned-call : (fs : Fields) (o : Order) (r : Outcome) (after : Day) → Call o ≡ entryOf fs → LineWritten file d (callBy (d .light) o) r line after → Turned file fs d r line after
+  pub turned-call : (fs : Fields) (o : Order) (r : Outcome) (after : Day) → Call o ≡ entryOf fs → LineWritten file d (callBy (d .light) o) r line after → Turned file first fs d r line after
   turned-call end o r after e b = absurd (let y : _≡_ {A = ℕ} 0 1 = cc in omega arith)
   turned-call cut o r after e b = absurd (let y : _≡_ {A = ℕ} 0 1 = cc in omega arith)
   turned-call (next f fs) o r after e b =
@@ -59,7 +59,7 @@ module _ (file : List ℕ) (d : Day) (line : List ℕ) where
   by-none o text after e w = rw e (bad-text text w, refl)
 
   bad-turn : (fs : Fields) (light text : ℕ) (after : Day) → Bad ≡ entryOf fs → light ≤ dayArea → Counts text line → take text line ≡ textOf badLine
-      → Turned file fs d (lastTurn light text) line after
+      → Turned file first fs d (lastTurn light text) line after
   bad-turn end light text after e few n w = absurd (let y : _≡_ {A = ℕ} 0 1 = cc in omega arith)
   bad-turn cut light text after e few n w = record { few = few; counted = n; text = bad-text text w; day = refl }
   bad-turn (next f fs) light text after e few n w =
@@ -67,16 +67,18 @@ module _ (file : List ℕ) (d : Day) (line : List ℕ) where
       record { few = few; counted = n; text = said; day = day }
 
   -- nothing more
-  end-turn : (fs : Fields) (light : ℕ) (after : Day) → End ≡ entryOf fs → light ≤ dayArea → Turned file fs d (lastTurn light 0) line after
-  end-turn end light after e few = record { few = few; counted = (omega arith, refl); text = refl; day = refl }
-  end-turn cut light after e few = absurd (let y : _≡_ {A = ℕ} 0 1 = cc in omega arith)
-  end-turn (next f fs) light after e few = absurd (not-end f e)
+  end-turn : (fs : Fields) (light text : ℕ) (after : Day) → End ≡ entryOf fs → light ≤ dayArea → Counts text line → take text line ≡ texts (endLines first)
+      → Turned file first fs d (lastTurn light text) line after
+  end-turn end light text after e few n w = record { few = few; counted = n; text = w; day = refl }
+  end-turn cut light text after e few n w = absurd (let y : _≡_ {A = ℕ} 0 1 = cc in omega arith)
+  end-turn (next f fs) light text after e few n w = absurd (not-end f e)
 
   -- the same of the outcome that the code returns
   module _ (fs : Fields) (light : ℕ) (out : List ℕ) (board : List ℕ) (r : Outcome) (few : light ≤ dayArea) where
     pub turned-bad : (text : ℕ) → r ≡ lastTurn light text → Bad ≡ entryOf fs → Counts text line → take text line ≡ textOf badLine
-        → Turned file fs d r line (dayAt board out (r .light))
+        → Turned file first fs d r line (dayAt board out (r .light))
     turned-bad text t e n w = rw t (bad-turn fs light text (dayAt board out light) e few n w)
 
-    pub turned-end : r ≡ lastTurn light 0 → End ≡ entryOf fs → Turned file fs d r line (dayAt board out (r .light))
-    turned-end t e = rw t (end-turn fs light (dayAt board out light) e few)
+    pub turned-end : (text : ℕ) → r ≡ lastTurn light text → End ≡ entryOf fs → Counts text line → take text line ≡ texts (endLines first)
+        → Turned file first fs d r line (dayAt board out (r .light))
+    turned-end text t e n w = rw t (end-turn fs light text (dayAt board out light) e few n w)

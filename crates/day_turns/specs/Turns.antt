@@ -26,9 +26,9 @@ abbrev pub dayIf : Bool → Day → Option Day
 dayIf true d = some d
 dayIf false d = none
 
--- a turn over the fields fs, on the day d, wrote the turn's line and left the day after
-pub record Turned (file : List ℕ) (fs : Fields) (d : Day) (r : Outcome) (line : List ℕ) (after : Day) : Type 0 where
+-- a turn, the first or a later one, over the fields fs, on the day d, wrote the turn's lines and left the day after
+pub record Turned (file : List ℕ) (first : Bool) (fs : Fields) (d : Day) (r : Outcome) (line : List ℕ) (after : Day) : Type 0 where
   pub few : r .light ≤ dayArea
   pub counted : Counts (r .text) line
-  pub text : take (r .text) line ≡ texts (lineNext file fs d)
+  pub text : take (r .text) line ≡ texts (lineNext file first fs d)
   pub day : dayIf (r .going) after ≡ dayNext file fs d

@@ -40,23 +40,25 @@ fn perform_line(
     }
 }
 
-// Performs the first field of the bytes. The last granted light is the front of the output area.
+// Performs the first field of the bytes. The last granted light is the front of the output area. No bytes are the script's end, and an
+// empty script if this is the first turn.
 pub fn turn(
     file: &[u8],
     board: &mut [u8],
     out: &mut [u8],
     words: &mut [u32],
     light: usize,
+    first: bool,
     bytes: &[u8],
     line: &mut [u8; LINE],
 ) -> Outcome
     requires { ⌜ Areas (length (now out)) (length (now words)) light ⌝ }
     requires { ⌜ header ≤ length (now board) ⌝ }
-    ensures { λ r. ⌜ Turned (now (file .entry)) (fields (now (bytes .entry))) (dayAt (now (board .entry)) (now (out .entry)) light) r (now (line .exit)) (dayAt (now (board .exit)) (now (out .exit)) (r .light)) ⌝ }
+    ensures { λ r. ⌜ Turned (now (file .entry)) first (fields (now (bytes .entry))) (dayAt (now (board .entry)) (now (out .entry)) light) r (now (line .exit)) (dayAt (now (board .exit)) (now (out .exit)) (r .light)) ⌝ }
 {
     match day_orders::read_entry(bytes) {
         Entry::Call(o) => perform_line(file, board, out, words, light, o, line),
         Entry::Bad => day_results::ended(light, day_lines::write_line(line, 99, 0, 0)),
-        Entry::End => day_results::ended(light, 0),
+        Entry::End => day_results::ended(light, day_lines::write_end(line, first)),
     }
 }

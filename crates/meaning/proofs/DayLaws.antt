@@ -3,7 +3,7 @@
 use Prim.Native.Nat.{ℕ, zero, suc, _+_, _-_, _*_, _≤_, _<_}
 use native.Mathlib.Omega.{arith}
 use mathlib.Core.Path.{_≡_, refl, sym, ap, ap₂, _∙_, subst}
-use mathlib.Core.Bool.{true, false, and-false}
+use mathlib.Core.Bool.{Bool, true, false, and-false}
 use mathlib.Core.Option.{Option, none, some}
 use mathlib.Core.List.{List, [], _∷_, _++_, append-assoc, append-nil}
 use lib.Dec.{leb, eqb}
@@ -18,14 +18,14 @@ use Rattle.meaning.specs.Site.{Site, siteOf, readSite}
 use Rattle.meaning.specs.Board.{boardLength}
 use Rattle.meaning.specs.Plan.{Node}
 use Rattle.meaning.specs.Calls.{Call, route, audit, post, close, withdraw, opening, listed, Lent, lends, onBoard, Done, acceptedDone, refusedDone}
-use Rattle.meaning.specs.Day.{Line, Day, isField, callOf, dayDone, lineThen, linesFrom, dayBoard, opened, dayLines, textOf, texts, dayText, wanted, piece, lineNext, dayBy, dayNext, linesOn}
+use Rattle.meaning.specs.Day.{Line, line, Day, isField, callOf, dayDone, lineThen, linesFrom, dayBoard, opened, dayLines, textOf, texts, dayText, wanted, piece, lineNext, dayBy, dayNext, linesOn}
 use Rattle.meaning.specs.DayPrints.{ScriptField, start}
 use Rattle.meaning.specs.Laws.{Turns, ended, turned, DayTurns}
 use Rattle.meaning.proofs.BasicsLaws.{decide, options, and-left, and-right, u16-back}
 use Rattle.meaning.proofs.CallLaws.{meant-number, meant-by, meant-accepted}
 use Rattle.meaning.proofs.CheckLaws.{size-refused}
 use Rattle.meaning.proofs.SiteLaws.{read-site}
-use Rattle.meaning.proofs.FieldsLaws.{fields-end, fields-short, fields-cut, fields-next, field-is, list-of, u16-below, put16-at}
+use Rattle.meaning.proofs.FieldsLaws.{fields-end, fields-short, fields-cut, fields-next, fields-some, field-is, list-of, u16-below, put16-at}
 
 -- no call has a value longer than a route's
 other-size : (f : Field) (tag size : ℕ) → (length (f .value) ≡ size → ⊥) → isField f tag size ≡ false
@@ -43,7 +43,7 @@ long-value light f h =
 
 -- the first field's turn, and the rest
 next-turn : (file : List ℕ) (d : Day) (f : Field) (rest : Fields) (s : List ℕ) → rest ≡ fields s
-    → linesFrom file (next f rest) d ≡ lineNext file (next f end) d ++ linesOn file s (dayNext file (next f end) d)
+    → linesFrom file (next f rest) d ≡ lineNext file false (next f end) d ++ linesOn file s (dayNext file (next f end) d)
 unfolding linesFrom
 next-turn file d f rest s e = by-call (callOf (d .light) f)
   where
@@ -64,7 +64,7 @@ module _ (file : List ℕ) (d : Day) where
   abbrev Turn : List ℕ → Type 0
   Turn s =
       linesFrom file (fields s) d
-      ≡ lineNext file (fields (piece s)) d ++ linesOn file (drop (length (piece s)) s) (dayNext file (fields (piece s)) d)
+      ≡ lineNext file false (fields (piece s)) d ++ linesOn file (drop (length (piece s)) s) (dayNext file (fields (piece s)) d)
 
   -- bytes that end in the middle of what is read
   cut-turn : (s : List ℕ) → length s ≤ 3 + wanted s → fields s ≡ cut → Turn s
@@ -189,11 +189,12 @@ texts-append : (xs ys : List Line) → texts (xs ++ ys) ≡ texts xs ++ texts ys
 texts-append [] ys = refl
 texts-append (x ∷ xs) ys = ap (λ (t : List ℕ). textOf x ++ t) (texts-append xs ys) ∙ sym (append-assoc (textOf x) (texts xs) (texts ys))
 
-turns-text : (file : List ℕ) {rest text : List ℕ} {o : Option Day} → Turns file rest o text → text ≡ texts (linesOn file rest o)
+-- the turns after the first, or those of a script that is not empty
+turns-text : (file : List ℕ) {rest text : List ℕ} {o : Option Day} → Turns file false rest o text → text ≡ texts (linesOn file rest o)
 turns-text file (ended {rest = rest}) = refl
 turns-text file (turned {rest = rest} {text = text} {d = d} more) =
-    ap (λ (t : List ℕ). texts (lineNext file (fields (piece rest)) d) ++ t) (turns-text file more)
-    ∙ sym (texts-append (lineNext file (fields (piece rest)) d) _)
+    ap (λ (t : List ℕ). texts (lineNext file false (fields (piece rest)) d) ++ t) (turns-text file more)
+    ∙ sym (texts-append (lineNext file false (fields (piece rest)) d) _)
     ∙ ap texts (sym (turn-by-turn file d rest))
 
 -- where the program goes on after a turn, the turn has read something
@@ -205,44 +206,68 @@ piece-read file (t ∷ s) d e goes =
     let more : 3 + wanted (t ∷ s) ≡ suc (2 + wanted (t ∷ s)) = omega arith in
     rw more (omega arith)
 
+-- what is read of a script that is not empty has a field
+piece-some : (b : ℕ) (s : List ℕ) → fields (piece (b ∷ s)) ≡ end → ⊥
+piece-some b s e =
+    let more : 3 + wanted (b ∷ s) ≡ suc (2 + wanted (b ∷ s)) = omega arith in
+    fields-some b (take (2 + wanted (b ∷ s)) s) (sym (ap (λ (k : ℕ). fields (take k (b ∷ s))) more) ∙ e)
+
 module _ (file : List ℕ) where
+  -- so its first turn prints as any other
+  not-quiet : (fs : Fields) (d : Day) → (fs ≡ end → ⊥) → lineNext file true fs d ≡ lineNext file false fs d
+  not-quiet end d some-field = absurd (some-field refl)
+  not-quiet cut d some-field = refl
+  not-quiet (next f fs) d some-field = refl
+
+  first-text : (script text : List ℕ) → Turns file true script (some (record { board = start file .lent .board; light = [] })) text
+      → text ≡ texts (opened file script (start file) 0)
+  first-text [] text (turned {text = later} {d = d} more) =
+      let gone : fields (piece []) ≡ end = ap fields (take-nil (3 + wanted [])) ∙ fields-end [] refl in
+      let last : later ≡ [] = turns-text file more ∙ ap (λ (fs : Fields). texts (linesOn file (drop (length (piece [])) []) (dayNext file fs d))) gone in
+      ap₂ (λ (fs : Fields) (t : List ℕ). texts (lineNext file true fs d) ++ t) gone last ∙ append-nil _
+  first-text (b ∷ s) text (turned {text = later} {d = d} more) =
+      ap (λ (xs : List Line). texts xs ++ later) (not-quiet (fields (piece (b ∷ s))) d (piece-some b s)) ∙ turns-text file (turned more)
+
   -- a turn, and the turns after it
-  turn-text : (rest : List ℕ) (d : Day)
-      → ((e : Day) → dayNext file (fields (piece rest)) d ≡ some e → (text : List ℕ) × Turns file (drop (length (piece rest)) rest) (some e) text)
-      → (text : List ℕ) × Turns file rest (some d) text
-  turn-text rest d more =
-      let line : List ℕ = texts (lineNext file (fields (piece rest)) d) in
+  turn-text : (first : Bool) (rest : List ℕ) (d : Day)
+      → ((e : Day) → dayNext file (fields (piece rest)) d ≡ some e → (text : List ℕ) × Turns file false (drop (length (piece rest)) rest) (some e) text)
+      → (text : List ℕ) × Turns file first rest (some d) text
+  turn-text first rest d more =
+      let line : List ℕ = texts (lineNext file first (fields (piece rest)) d) in
       let left : List ℕ = drop (length (piece rest)) rest in
       options (dayNext file (fields (piece rest)) d)
-      (λ e. (line ++ [], turned (subst (λ (o : Option Day). Turns file left o []) (sym e) ended)))
-      (λ next e. let (text, p) = more next e in (line ++ text, turned (subst (λ (o : Option Day). Turns file left o text) (sym e) p)))
+      (λ e. (line ++ [], turned (subst (λ (o : Option Day). Turns file false left o []) (sym e) ended)))
+      (λ next e. let (text, p) = more next e in (line ++ text, turned (subst (λ (o : Option Day). Turns file false left o text) (sym e) p)))
 
   -- every script has a text: each turn leaves less of it
-  some-text : (k : ℕ) (rest : List ℕ) (d : Day) → length rest ≤ k → (text : List ℕ) × Turns file rest (some d) text
-  some-text zero rest d h =
-      turn-text rest d (λ e goes. absurd (let read = piece-read file rest d e goes in let part = length-take (3 + wanted rest) rest in omega arith))
-  some-text (suc k) rest d h =
-      turn-text rest d (λ e goes.
+  some-text : (k : ℕ) (first : Bool) (rest : List ℕ) (d : Day) → length rest ≤ k → (text : List ℕ) × Turns file first rest (some d) text
+  some-text zero first rest d h =
+      turn-text first rest d (λ e goes. absurd (let read = piece-read file rest d e goes in let part = length-take (3 + wanted rest) rest in omega arith))
+  some-text (suc k) first rest d h =
+      turn-text first rest d (λ e goes.
       let read = piece-read file rest d e goes in
       let left = length-drop (length (piece rest)) rest in
-      some-text k (drop (length (piece rest)) rest) e (omega arith))
+      some-text k false (drop (length (piece rest)) rest) e (omega arith))
+
+  -- by the number of opening
+  pub day-text : (script : List ℕ) (n : ℕ) → start file .number ≡ n → dayText file script ≡ texts (opened file script (start file) n)
+  unfolding dayLines
+  day-text script n e = ap (λ (k : ℕ). texts (opened file script (start file) k)) e
 
   pub only-that : (script text : List ℕ) → DayTurns file script text → text ≡ dayText file script
-  unfolding dayLines
-  only-that script text (DayTurns.not-opened {n = n} e) =
-      sym (append-nil (textOf (record { number = suc n; edition = 0; arrival = 0 }))) ∙ ap (λ (k : ℕ). texts (opened file script (start file) k)) (sym e)
-  only-that script text (DayTurns.opened e p) = turns-text file p ∙ ap (λ (k : ℕ). texts (opened file script (start file) k)) (sym e)
+  only-that script text (DayTurns.not-opened {n = n} e) = sym (append-nil (textOf (line (suc n) 0 0))) ∙ sym (day-text script (suc n) e)
+  only-that script text (DayTurns.opened e p) = first-text script text p ∙ sym (day-text script 0 e)
 
   pub all-turns : (script : List ℕ) → DayTurns file script (dayText file script)
   all-turns script = by-number (start file .number) refl
     where
       by-number : (n : ℕ) → start file .number ≡ n → DayTurns file script (dayText file script)
       by-number zero e =
-          let (text, p) = some-text (length script) script (record { board = start file .lent .board; light = [] }) (omega arith) in
+          let (text, p) = some-text (length script) true script (record { board = start file .lent .board; light = [] }) (omega arith) in
           let one : DayTurns file script text = DayTurns.opened e p in
           subst (DayTurns file script) (only-that script text one) one
       by-number (suc n) e =
-          let one : DayTurns file script (textOf (record { number = suc n; edition = 0; arrival = 0 })) = DayTurns.not-opened e in
+          let one : DayTurns file script (textOf (line (suc n) 0 0)) = DayTurns.not-opened e in
           subst (DayTurns file script) (only-that script _ one) one
 
 part-length : (n m : ℕ) → m < n → length (take n (replicate {A = ℕ} m 0)) ≡ m
@@ -251,7 +276,7 @@ part-length n m h =
     ap length (take-all n (replicate m 0) (omega arith)) ∙ size
 
 pub too-large : (file script : List ℕ) (site : Site) → readSite file ≡ accepted site → 65536 < boardLength site
-    → dayText file script ≡ textOf (record { number = 7; edition = 0; arrival = 0 })
+    → dayText file script ≡ textOf (line 7 0 0)
 too-large file script site read large =
     let (clear, same) = read-site file site read in
     let more : dayArea < boardLength (siteOf file) = subst (λ (s : Site). dayArea < boardLength s) (sym same) large in

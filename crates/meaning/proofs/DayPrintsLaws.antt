@@ -1,4 +1,4 @@
--- The day program prints what document 01 says: digits, lines, and field by field the whole script.
+-- The day program prints what the documents say: digits, lines, field by field the whole script, and a line for an empty one.
 -- Assumes nothing.
 use Prim.Native.Nat.{ℕ, zero, suc, _+_, _*_, _/_, _%_, _≤_, _<_}
 use native.Mathlib.Omega.{arith}
@@ -11,18 +11,18 @@ use lib.Seq.{length-take-le}
 use borrow.Author.Tests.{leb-true, leb-false, ltb-true, ltb-false, lt-ltb, le-ltb}
 use Rattle.meaning.specs.Limits.{dayArea, dayWords}
 use Rattle.meaning.specs.Basics.{Bytes, put16}
-use Rattle.meaning.specs.Fields.{Field, cut, next, fields, fieldBytes}
+use Rattle.meaning.specs.Fields.{Field, Fields, end, cut, next, fields, fieldBytes}
 use Rattle.meaning.specs.Site.{siteOf}
 use Rattle.meaning.specs.Board.{edition}
 use Rattle.meaning.specs.Plan.{Node}
 use Rattle.meaning.specs.Calls.{Call, route, audit, post, close, withdraw, listed, Lent, lends, Done, acceptedDone}
-use Rattle.meaning.specs.Day.{Line, Day, badLine, callOf, dayDone, arrivalOf, lastLight, lineOf, dayAfter, lineThen, linesFrom, opened, dayLines, decimalBy, decimal, textOf, texts, dayText}
+use Rattle.meaning.specs.Day.{Line, line, badLine, quietLine, Day, callOf, dayDone, arrivalOf, lastLight, lineOf, dayAfter, lineThen, linesFrom, opened, decimalBy, decimal, textOf, texts, dayText}
 use Rattle.meaning.specs.DayPrints as words
 use Rattle.meaning.specs.DayPrints.{Digits, LineText, ScriptField, Begins, IsRoute, Prints, start, DayPrints}
 use Rattle.meaning.specs.Laws.{DayRight}
 use Rattle.meaning.proofs.BasicsLaws.{decide, options, each-append, u16-bytes}
 use Rattle.meaning.proofs.CallLaws.{meant-accepted}
-use Rattle.meaning.proofs.FieldsLaws.{fields-end, fields-short, fields-cut, fields-field, bytes-take, bytes-drop}
+use Rattle.meaning.proofs.FieldsLaws.{fields-end, fields-short, fields-cut, fields-some, fields-field, bytes-take, bytes-drop}
 use Rattle.meaning.proofs.DayLaws as day
 
 -- ---- lines
@@ -46,6 +46,13 @@ line-text x = LineText.spaced (digits (x .number)) (digits (x .edition)) (digits
 -- the last line
 last-text : (x : Line) → LineText (x .number) (x .edition) (x .arrival) (texts (x ∷ []))
 last-text x = subst (LineText (x .number) (x .edition) (x .arrival)) (sym (append-nil (textOf x))) (line-text x)
+
+-- a line has a byte
+some-text : (x : Line) (more : List ℕ) → 1 ≤ length (textOf x ++ more)
+some-text x more =
+    let all = length-append (textOf x) more in
+    let number = length-append (decimal (x .number)) (32 ∷ decimal (x .edition) ++ (32 ∷ decimal (x .arrival) ++ (10 ∷ []))) in
+    omega arith
 
 -- no other text is that line's
 
@@ -236,25 +243,68 @@ module _ (file : List ℕ) where
   print-all zero s h b d = print-one s b d (λ rest br less e. absurd (omega arith))
   print-all (suc k) s h b d = print-one s b d (λ rest br less e. print-all k rest (omega arith) br e)
 
+  -- ---- the whole program
+
+  abbrev first : Day
+  first = record { board = start file .lent .board; light = [] }
+
+  open-prints : (script : List ℕ) → Bytes script → start file .number ≡ 0 → DayPrints file script (texts (opened file script (start file) 0))
+  open-prints [] b e = DayPrints.quiet e refl (last-text quietLine)
+  open-prints (x ∷ s) b e = DayPrints.opened e (omega arith) (print-all (length (x ∷ s)) (x ∷ s) (omega arith) b first)
+
   prints : (script : List ℕ) → Bytes script → DayPrints file script (dayText file script)
-  unfolding dayLines
   prints script b = by-number (start file .number) refl
     where
       by-number : (n : ℕ) → start file .number ≡ n → DayPrints file script (dayText file script)
-      by-number zero e =
-          rw e (DayPrints.opened e (print-all (length script) script (omega arith) b (record { board = start file .lent .board; light = [] })))
-      by-number (suc n) e = rw e (DayPrints.refused e (last-text (record { number = suc n; edition = 0; arrival = 0 })))
+      by-number zero e = subst (DayPrints file script) (sym (day.day-text file script 0 e)) (open-prints script b e)
+      by-number (suc n) e = subst (DayPrints file script) (sym (day.day-text file script (suc n) e)) (DayPrints.refused e (last-text (line (suc n) 0 0)))
+
+  open-only : (script text : List ℕ) → Bytes script → 1 ≤ length script → Prints file (first .board) [] script text
+      → text ≡ texts (opened file script (start file) 0)
+  open-only [] text b some-byte p = absurd (omega arith)
+  open-only (x ∷ s) text b some-byte p = only-prints p b
 
   only-that : (script text : List ℕ) → Bytes script → DayPrints file script text → text ≡ dayText file script
-  unfolding dayLines
-  only-that script text b (DayPrints.refused {n = n} e line) =
-      one-line line ∙ sym (append-nil (textOf (record { number = suc n; edition = 0; arrival = 0 }))) ∙ ap (λ (k : ℕ). texts (opened file script (start file) k)) (sym e)
-  only-that script text b (DayPrints.opened e p) = only-prints p b ∙ ap (λ (k : ℕ). texts (opened file script (start file) k)) (sym e)
+  only-that script text b (DayPrints.refused {n = n} e only) =
+      one-line only ∙ sym (append-nil (textOf (line (suc n) 0 0))) ∙ sym (day.day-text file script (suc n) e)
+  only-that script text b (DayPrints.quiet e empty only) =
+      one-line only ∙ sym (append-nil (textOf quietLine)) ∙ sym (day.day-text file [] 0 e) ∙ ap (dayText file) (sym empty)
+  only-that script text b (DayPrints.opened e some-byte p) = open-only script text b some-byte p ∙ sym (day.day-text file script 0 e)
+
+  quiet : start file .number ≡ 0 → dayText file [] ≡ 48 ∷ 32 ∷ 48 ∷ 32 ∷ 48 ∷ 10 ∷ []
+  unfolding decimal
+  quiet e = day.day-text file [] 0 e
+
+  refused-open : (script : List ℕ) (n : ℕ) → start file .number ≡ suc n → LineText (suc n) 0 0 (dayText file script)
+  refused-open script n e = subst (LineText (suc n) 0 0) (sym (day.day-text file script (suc n) e)) (last-text (line (suc n) 0 0))
+
+  -- ---- something is printed
+
+  some-line : (fs : Fields) (d : Day) → (fs ≡ end → ⊥) → 1 ≤ length (texts (linesFrom file fs d))
+  unfolding linesFrom
+  some-line end d some-field = absurd (some-field refl)
+  some-line cut d some-field = some-text badLine []
+  some-line (next f fs) d some-field = by-call (callOf (d .light) f)
+    where
+      by-call : (o : Option Call) → 1 ≤ length (texts (lineThen file d o (linesFrom file fs)))
+      by-call none = some-text badLine []
+      by-call (some c) = some-text (lineOf (dayDone file d c)) _
+
+  never-silent : (script : List ℕ) → 1 ≤ length (dayText file script)
+  never-silent script = subst (λ (t : List ℕ). 1 ≤ length t) (sym (day.day-text file script (start file .number) refl)) (by-number script (start file .number))
+    where
+      by-number : (s : List ℕ) (n : ℕ) → 1 ≤ length (texts (opened file s (start file) n))
+      by-number s (suc n) = some-text (line (suc n) 0 0) []
+      by-number [] zero = some-text quietLine []
+      by-number (b ∷ s) zero = some-line (fields (b ∷ s)) first (fields-some b s)
 
 pub day-right : DayRight
 day-right = record {
   prints = prints;
   only-prints = only-that;
+  quiet = quiet;
+  refused-open = refused-open;
+  never-silent = never-silent;
   short-pieces = day.short-pieces;
   turns = day.all-turns;
   only-turns = day.only-that;

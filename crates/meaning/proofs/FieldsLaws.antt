@@ -66,6 +66,16 @@ fields-next (t ∷ h ∷ l ∷ s) q =
       split-more (suc (suc (length s))) (length (drop n s)) (drop n s) (omega arith) (omega arith),
     )
 
+-- some byte is the first of a field, whole or cut
+pub fields-some : (b : ℕ) (s : List ℕ) → fields (b ∷ s) ≡ end → ⊥
+unfolding fields split
+fields-some b [] e = let z : _≡_ {A = ℕ} 0 1 = cc in omega arith
+fields-some b (h ∷ []) e = let z : _≡_ {A = ℕ} 0 1 = cc in omega arith
+fields-some b (h ∷ l ∷ s) e =
+    decide (leb (h * 256 + l) (length s))
+    (λ q. let y : _ = simp q at e in let z : _≡_ {A = ℕ} 0 1 = cc in omega arith)
+    (λ q. let y : _ = simp q at e in let z : _≡_ {A = ℕ} 0 1 = cc in omega arith)
+
 -- ---- what is written is read back
 
 pub fields-field : (f : Field) (rest : List ℕ) → length (f .value) < 65536 → fields (fieldBytes f ++ rest) ≡ next f (fields rest)

@@ -1,7 +1,7 @@
 -- The day program: from the bytes of site.bin and of the script to the lines that it prints.
 -- Assumes nothing.
 use Prim.Native.Nat.{ℕ, zero, suc, _+_, _/_, _%_}
-use mathlib.Core.Bool.{Bool, cond, _&&_}
+use mathlib.Core.Bool.{Bool, true, false, cond, _&&_}
 use mathlib.Core.Option.{Option, none, some}
 use mathlib.Core.List.{List, [], _∷_, _++_}
 use lib.Dec.{eqb, leb, ltb}
@@ -19,9 +19,16 @@ pub record Line : Type 0 where
   pub edition : ℕ
   pub arrival : ℕ
 
+abbrev pub line : ℕ → ℕ → ℕ → Line
+line number edition arrival = record { number = number; edition = edition; arrival = arrival }
+
 -- what follows ends the program
 abbrev pub badLine : Line
-badLine = record { number = 99; edition = 0; arrival = 0 }
+badLine = line 99 0 0
+
+-- a shift without movements
+abbrev pub quietLine : Line
+quietLine = line 0 0 0
 
 -- ---- the calls of a script
 
@@ -81,10 +88,11 @@ linesFrom file (next f fs) d = lineThen file d (callOf (d .light) f) (linesFrom 
 abbrev pub dayBoard : List ℕ → List ℕ
 dayBoard file = take (boardLength (siteOf file)) (replicate dayArea 0)
 
--- a refused open prints its number and ends
+-- a refused open prints its number and ends; after an accepted one an empty script prints one line, and any other those of its fields
 abbrev pub opened : List ℕ → List ℕ → Done → ℕ → List Line
-opened file script x zero = linesFrom file (fields script) (record { board = x .lent .board; light = [] })
-opened file script x (suc n) = record { number = suc n; edition = 0; arrival = 0 } ∷ []
+opened file script x (suc n) = line (suc n) 0 0 ∷ []
+opened file [] x zero = quietLine ∷ []
+opened file (b ∷ script) x zero = linesFrom file (fields (b ∷ script)) (record { board = x .lent .board; light = [] })
 
 unfoldable pub dayLines : List ℕ → List ℕ → List Line
 dayLines file script =
@@ -123,11 +131,16 @@ wanted s = cond (leb (u16At s 1) routeSize) (u16At s 1) 0
 abbrev pub piece : List ℕ → List ℕ
 piece s = take (fieldHeader + wanted s) s
 
--- the line of a turn; nothing at the script's end
-abbrev pub lineNext : List ℕ → Fields → Day → List Line
-lineNext file end d = []
-lineNext file cut d = badLine ∷ []
-lineNext file (next f fs) d = lineThen file d (callOf (d .light) f) (λ (d′ : Day). [])
+-- the lines at the script's end: it is empty if the first turn finds its end
+abbrev pub endLines : Bool → List Line
+endLines true = quietLine ∷ []
+endLines false = []
+
+-- the lines of a turn, the first or a later one
+abbrev pub lineNext : List ℕ → Bool → Fields → Day → List Line
+lineNext file first end d = endLines first
+lineNext file first cut d = badLine ∷ []
+lineNext file first (next f fs) d = lineThen file d (callOf (d .light) f) (λ (d′ : Day). [])
 
 -- the day after a turn; nothing where the program ends
 abbrev pub dayBy : List ℕ → Day → Option Call → Option Day

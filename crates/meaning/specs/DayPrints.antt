@@ -1,5 +1,5 @@
--- What the day program prints, in document 01's words: which bytes follow from a site file and a script. No reader and no printing
--- function stands in it.
+-- What the day program prints, in the words of document 01 and of request 1 of document 02: which bytes follow from a site file and a
+-- script. No reader and no printing function stands in it.
 -- Assumes nothing.
 use Prim.Native.Nat.{ℕ, suc, _+_, _*_, _≤_, _<_}
 use mathlib.Core.Path.{_≡_}
@@ -78,7 +78,12 @@ pub data Prints (file : List ℕ) : List ℕ → List ℕ → List ℕ → List 
 abbrev pub start : List ℕ → Done
 start file = meant file (onBoard (take (4 + siteOf file .cells * (siteOf file .horizon + 1)) (replicate 65536 0))) opening
 
--- the whole program: the line of a refused open, or the script on the opened board with no light yet
+-- the whole program
 pub data DayPrints (file script : List ℕ) : List ℕ → Type 0 where
+  -- a refused open: its number, 0, 0, and the program ends
   refused : {n : ℕ} {text : List ℕ} → start file .number ≡ suc n → LineText (suc n) 0 0 text → DayPrints file script text
-  opened : {text : List ℕ} → start file .number ≡ 0 → Prints file (start file .lent .board) [] script text → DayPrints file script text
+  -- an empty script: the single line 0 0 0 after a successful open
+  quiet : {text : List ℕ} → start file .number ≡ 0 → script ≡ [] → LineText 0 0 0 text → DayPrints file script text
+  -- any other script: its fields on the opened board, with no light yet
+  opened : {text : List ℕ} → start file .number ≡ 0 → 1 ≤ length script → Prints file (start file .lent .board) [] script text
+      → DayPrints file script text

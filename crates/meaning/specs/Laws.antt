@@ -17,8 +17,8 @@ use Rattle.meaning.specs.Light.{Light, encode, decode}
 use Rattle.meaning.specs.Intervals.{Interval, intervals, numbersOf}
 use Rattle.meaning.specs.Calls.{Call, PublicCall, Lent, refusals}
 use Rattle.meaning.specs.PlainBoard.{hasPair}
-use Rattle.meaning.specs.Day.{Day, callOf, textOf, texts, dayText, piece, lineNext, dayNext}
-use Rattle.meaning.specs.DayPrints.{ScriptField, start, DayPrints}
+use Rattle.meaning.specs.Day.{line, Day, callOf, textOf, texts, dayText, piece, lineNext, dayNext}
+use Rattle.meaning.specs.DayPrints.{LineText, ScriptField, start, DayPrints}
 use Rattle.meaning.specs.ValidPlans.{Valid, Reached, Arrival, Holds, Traced, mergeWaits}
 use Rattle.meaning.specs.SafeIntervals.{AllSafeIntervals}
 use Rattle.meaning.specs.WellFormed.{WellFormed, fileOf, KeepsLayout}
@@ -108,24 +108,31 @@ pub record HandoverRight : Type 0 where
 
 -- ---- the day program
 
--- the text of the turns from a day on, each of which reads a piece of the script; nothing where the program has ended
-pub data Turns (file : List ℕ) : List ℕ → Option Day → List ℕ → Type 0 where
-  ended : {rest : List ℕ} → Turns file rest none []
-  turned : {rest text : List ℕ} {d : Day}
-      → Turns file (drop (length (piece rest)) rest) (dayNext file (fields (piece rest)) d) text
-      → Turns file rest (some d) (texts (lineNext file (fields (piece rest)) d) ++ text)
+-- the text of the turns from a day on, the first or later ones, each of which reads a piece of the script; nothing where the program
+-- has ended
+pub data Turns (file : List ℕ) : Bool → List ℕ → Option Day → List ℕ → Type 0 where
+  ended : {first : Bool} {rest : List ℕ} → Turns file first rest none []
+  turned : {first : Bool} {rest text : List ℕ} {d : Day}
+      → Turns file false (drop (length (piece rest)) rest) (dayNext file (fields (piece rest)) d) text
+      → Turns file first rest (some d) (texts (lineNext file first (fields (piece rest)) d) ++ text)
 
 -- the text of the opening and of the turns, one after the other
 pub data DayTurns (file script : List ℕ) : List ℕ → Type 0 where
-  not-opened : {n : ℕ} → start file .number ≡ suc n → DayTurns file script (textOf (record { number = suc n; edition = 0; arrival = 0 }))
+  not-opened : {n : ℕ} → start file .number ≡ suc n → DayTurns file script (textOf (line (suc n) 0 0))
   opened : {text : List ℕ} → start file .number ≡ 0
-      → Turns file script (some (record { board = start file .lent .board; light = [] })) text
+      → Turns file true script (some (record { board = start file .lent .board; light = [] })) text
       → DayTurns file script text
 
 pub record DayRight : Type 0 where
-  -- it prints what document 01 says, and nothing else
+  -- it prints what the documents say, and nothing else
   pub prints : (file script : List ℕ) → Bytes script → DayPrints file script (dayText file script)
   pub only-prints : (file script text : List ℕ) → Bytes script → DayPrints file script text → text ≡ dayText file script
+  -- after a successful open an empty script prints 0 0 0, byte by byte
+  pub quiet : (file : List ℕ) → start file .number ≡ 0 → dayText file [] ≡ 48 ∷ 32 ∷ 48 ∷ 32 ∷ 48 ∷ 10 ∷ []
+  -- a refused open prints its own line only, also with an empty script
+  pub refused-open : (file script : List ℕ) (n : ℕ) → start file .number ≡ suc n → LineText (suc n) 0 0 (dayText file script)
+  -- no site file and script print nothing at all, so that silence is a program that never started
+  pub never-silent : (file script : List ℕ) → 1 ≤ length (dayText file script)
   -- it may read its script turn by turn, no more than a header and the value that a call may have: the opening and the turns, one after
   -- the other, print the text of the whole script, and no other
   pub short-pieces : (script : List ℕ) → length (piece script) ≤ 10
@@ -133,7 +140,7 @@ pub record DayRight : Type 0 where
   pub only-turns : (file script text : List ℕ) → DayTurns file script text → text ≡ dayText file script
   -- a site whose board is larger than the area meets 7
   pub too-large : (file script : List ℕ) (site : Site) → readSite file ≡ accepted site → 65536 < 4 + site .cells * (site .horizon + 1)
-      → dayText file script ≡ textOf (record { number = 7; edition = 0; arrival = 0 })
+      → dayText file script ≡ textOf (line 7 0 0)
   -- a field makes a call exactly when it is that call's: another tag or length makes none
   pub calls : (light : List ℕ) (f : Field) (c : Call) → Bytes (f .value) → callOf light f ≡ some c → ScriptField light c f
   pub all-calls : (light : List ℕ) (f : Field) (c : Call) → ScriptField light c f → callOf light f ≡ some c

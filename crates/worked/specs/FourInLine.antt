@@ -4,7 +4,7 @@ use Prim.Native.Nat.{ℕ, zero, suc, _/_, _%_}
 use mathlib.Core.Path.{_≡_}
 use mathlib.Core.Option.{Option, none, some}
 use mathlib.Core.List.{List, [], _∷_, _++_}
-use lib.ListN.{length, replicate}
+use lib.ListN.{length, take, replicate}
 use Rattle.meaning.specs.Answers.{Answer, accepted, refused}
 use Rattle.meaning.specs.Fields.{Field, fieldsBytes}
 use Rattle.meaning.specs.Site.{siteOf, readSite}
@@ -210,7 +210,13 @@ pub record Computed : Type 0 where
   -- a tag that is none ends the program
   pub day-tag : dayLines siteFile (fieldsBytes (record { tag = 31; value = [] } ∷ closing ∷ [])) ≡ line 99 0 0 ∷ []
   pub day-refused : dayLines siteFileO script ≡ line 6 0 0 ∷ []
-  pub day-empty : dayLines siteFile [] ≡ []
+  -- an empty script prints one line, unless the open is refused; one or two bytes are a cut field, and a field has no line more
+  pub day-quiet : dayLines siteFile [] ≡ line 0 0 0 ∷ []
+  pub day-quiet-refused : dayLines siteFileO [] ≡ line 6 0 0 ∷ []
+  pub day-quiet-cut-site : dayLines (take 99 siteFile) [] ≡ line 2 0 0 ∷ []
+  pub day-cut-1 : dayLines siteFile (33 ∷ []) ≡ line 99 0 0 ∷ []
+  pub day-cut-2 : dayLines siteFile (33 ∷ 0 ∷ []) ≡ line 99 0 0 ∷ []
+  pub day-close : dayLines siteFile (fieldsBytes (closing ∷ [])) ≡ line 0 1 0 ∷ []
   -- I by script: start 1, tick 3
   pub day-start : dayLines siteFile (fieldsBytes (
       record { tag = 32; value = 200 ∷ 2 ∷ 0 ∷ 4 ∷ 0 ∷ 4 ∷ [] } ∷ record { tag = 34; value = 7 ∷ 0 ∷ 1 ∷ 0 ∷ 3 ∷ 0 ∷ 4 ∷ [] } ∷ []))

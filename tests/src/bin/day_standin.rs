@@ -16,18 +16,28 @@ fn main() {
     }
     let mut script = std::io::stdin().lock();
     let mut light = Vec::new();
+    let mut empty = true;
     loop {
         let mut head = [0u8; 3];
         let mut got = 0;
+        let mut unreadable = false;
         while got < 3 {
             match script.read(&mut head[got..]) {
-                Ok(n) if n > 0 => got += n,
-                _ => break,
+                Ok(0) => break,
+                Ok(n) => got += n,
+                Err(_) => {
+                    unreadable = true;
+                    break;
+                }
             }
         }
-        if got == 0 {
+        if got == 0 && !unreadable {
+            if empty {
+                println!("0 0 0");
+            }
             return;
         }
+        empty = false;
         let mut value = vec![0u8; number(&head[1..])];
         if got < 3 || script.read_exact(&mut value).is_err() {
             println!("99 0 0");

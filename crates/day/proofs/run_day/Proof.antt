@@ -5,6 +5,7 @@ use native.Mathlib.Omega.{arith}
 use mathlib.Core.Path.{sym}
 use lib.ListN.{length, take}
 use lib.Seq.{length-take-le}
+use Rattle.io.specs.Counts.{Counts}
 use Rattle.meaning.specs.Limits.{header}
 use borrow.Author.Needs.{needs}
 use Rattle.day.proofs.run_day.Statement.{statement}
@@ -33,7 +34,7 @@ slice-aggregate-run-turns c = search needs
 
 -- the board is the front of the area
 opened : (c : tie.After-size) → (header ≤ c .size .given .0 .0) × (c .size .given .0 .0 ≤ length (c .before .before .before .before .start .last .1 .0))
-opened c = let o = c .before .before .before .before .start .ensures .1 (c .size .given .0 .0) (c .size .given .1) in (o .has-edition, o .inside)
+opened c = let o = c .before .before .before .before .start .ensures .0 (c .size .given .0 .0) (c .size .given .1) in (o .has-edition, o .inside)
 
 has-edition : (c : tie.After-size) → header ≤ length (take (c .size .given .0 .0) (c .before .before .before .before .start .last .1 .0))
 has-edition c =
@@ -48,13 +49,23 @@ slice-aggregate-run-turns-2 : tie.Need-slice-aggregate-run-turns-2
 slice-aggregate-run-turns-2 c = sym (length-take-le _ _ (opened (c .before .before .before) .1))
 
 run-turns-requires : tie.Need-run-turns-requires
-run-turns-requires c κs = (c .before .before .before .before .before .before .before .before .before .before .before .before .before .before .before .before .before .before .before .before .pre .1, has-edition (c .before .before .before .before .before))
+run-turns-requires c κs = (c .before .before .before .before .before .before .before .before .before .before .before .before .before .before .before .before .before .before .before .before .before .pre .1, has-edition (c .before .before .before .before .before))
 
-enum-known-number : tie.Need-enum-known-number
-enum-known-number c = search needs
+enum-known-text : tie.Need-enum-known-text
+enum-known-text c = search needs
 
-refuse-requires : tie.Need-refuse-requires
-refuse-requires c κs = search needs
+-- the refusal's text is the front of the line
+refused : (c : tie.After-text) → Counts (c .text .given .0 .0) (c .before .before .before .before .start .last .1 .1 .0)
+refused c = c .before .before .before .before .start .ensures .1 (c .text .given .0 .0) (c .text .given .1) .counted
+
+array-share-prefix-line : tie.Need-array-share-prefix-line
+array-share-prefix-line c = refused (c .before) .0
+
+slice-aggregate-write-all : tie.Need-slice-aggregate-write-all
+slice-aggregate-write-all c = refused (c .before .before) .1
+
+write-all-requires : tie.Need-write-all-requires
+write-all-requires c κs = search needs
 
 same-length : tie.Need-same-length
 same-length c = search needs
@@ -94,8 +105,10 @@ run-day-spec =
     slice-relend-prefix-run-turns
     slice-aggregate-run-turns-2
     run-turns-requires
-    enum-known-number
-    refuse-requires
+    enum-known-text
+    array-share-prefix-line
+    slice-aggregate-write-all
+    write-all-requires
     same-length
     same-length-2
     same-length-3

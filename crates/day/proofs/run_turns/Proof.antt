@@ -12,11 +12,11 @@ use Rattle.day.proofs.run_turns.Statement.{statement}
 use Rattle.day.proofs.run_turns.Tie as tie
 
 abbrev Inv-loop : tie.InvT-loop
-Inv-loop file board₀ out₀ words₀ light₀ going₀ turns₀ board out words light going turns =
+Inv-loop file board₀ out₀ words₀ light₀ first₀ going₀ turns₀ board out words light first going turns =
     (length board ≡ length board₀) × (length out ≡ length out₀) × (length words ≡ length words₀) × (light ≤ dayArea)
 
 abbrev μ-loop : tie.MeasureT-loop
-μ-loop file board₀ out₀ words₀ light₀ going₀ turns₀ board out words light going turns = turns
+μ-loop file board₀ out₀ words₀ light₀ first₀ going₀ turns₀ board out words light first going turns = turns
 
 loop-holds : tie.Need-loop-holds Inv-loop μ-loop
 loop-holds c = search needs

@@ -9,7 +9,7 @@ use Rattle.meaning.specs.Limits.{dayArea}
 use Rattle.meaning.specs.Answers.{lowest}
 use Rattle.meaning.specs.Site.{siteOf, siteRefusals}
 use Rattle.meaning.specs.Board.{boardLength}
-use Rattle.day_opening.proofs.OpeningLaws.{opened, opened-front, refused-start, not-opened}
+use Rattle.day_opening.proofs.OpeningLaws.{opened, refused, not-refused, not-opened}
 use Rattle.day_opening.proofs.start.Statement.{statement}
 use Rattle.day_opening.proofs.start.Tie as tie
 
@@ -42,6 +42,12 @@ enum-told c = search needs
 enum-known-n : tie.Need-enum-known-n
 enum-known-n c = search needs
 
+cast-number : tie.Need-cast-number
+cast-number c = search needs
+
+write-line-requires : tie.Need-write-line-requires
+write-line-requires c κs = search needs
+
 same-length : tie.Need-same-length
 same-length c = search needs
 
@@ -51,8 +57,8 @@ returns c =
     let at = called .before .before in
     let a = start at .args in
     let e = sym (c .enum-told .given .1) ∙ called .«open» .ensures .0 in (
-      opened (a .file .now) (a .area .now) (at .board-need .result) (inside at) (part at) e,
-      opened-front (a .file .now) (a .area .now) (at .board-need .result) (inside at) (part at) e _ (called .«open» .ensures .1 .0),
+      opened (a .file .now) (a .area .now) (at .board-need .result) (inside at) (part at) e _ (called .«open» .ensures .1 .0),
+      λ n. not-refused _ n,
     )
 
 same-length-2 : tie.Need-same-length-2
@@ -60,11 +66,13 @@ same-length-2 c = search needs
 
 returns-2 : tie.Need-returns-2
 returns-2 c =
-    let called = c .before .before .before .before .before in
+    let called = c .before .before .before .before .before .before .before in
     let at = called .before .before in
     let a = start at .args in
-    let e = sym (c .before .n .given .1) ∙ called .«open» .ensures .0 in
-    (refused-start (a .file .now) (a .area .now) (at .board-need .result) (inside at) (part at) _ e, λ n. not-opened _ n)
+    let e = sym (c .before .before .before .n .given .1) ∙ called .«open» .ensures .0 in (
+      λ n. not-opened _ n,
+      refused (a .file .now) (a .area .now) (at .board-need .result) (inside at) (part at) _ e _ _ (c .write-line .ensures .0) (c .write-line .ensures .1),
+    )
 
 pub start-spec : {M : Type 1} → statement M
 start-spec =
@@ -76,6 +84,8 @@ start-spec =
     open-requires
     enum-told
     enum-known-n
+    cast-number
+    write-line-requires
     same-length
     returns
     same-length-2

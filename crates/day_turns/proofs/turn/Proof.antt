@@ -29,6 +29,9 @@ ended-requires c κs = search needs
 enum-told-2 : tie.Need-enum-told-2
 enum-told-2 c = search needs
 
+write-end-requires : tie.Need-write-end-requires
+write-end-requires c κs = search needs
+
 ended-requires-2 : tie.Need-ended-requires-2
 ended-requires-2 c κs = search needs
 
@@ -46,7 +49,7 @@ returns c =
     let called = c .before .before .before .before .before .before in
     let at = called .before .before .before .before .before .before in
     let a = at .before .before .before .before .before .before .before .before .args in
-    turned-call (a .file .now) (dayAt (a .board .now) (a .out .now) (a .light)) _ (fields (a .bytes .now)) _ _ _
+    turned-call (a .file .now) (a .first) (dayAt (a .board .now) (a .out .now) (a .light)) _ (fields (a .bytes .now)) _ _ _
     (sym (at .o .given .1) ∙ at .before .before .read-entry .ensures) (called .perform-line .ensures)
 
 returns-2 : tie.Need-returns-2
@@ -54,16 +57,16 @@ returns-2 c =
     let at = c .before .before .before in
     let s = at .before .before .before .before .before .before .before .before in
     let a = s .args in
-    turned-bad (a .file .now) (dayAt (a .board .now) (a .out .now) (a .light)) _ (fields (a .bytes .now)) (a .light) _ _ _ (s .pre .0 .light-inside) _ (c .ended .ensures)
+    turned-bad (a .file .now) (a .first) (dayAt (a .board .now) (a .out .now) (a .light)) _ (fields (a .bytes .now)) (a .light) _ _ _ (s .pre .0 .light-inside) _ (c .ended .ensures)
     (sym (at .enum-told .given .1) ∙ at .before .before .read-entry .ensures) (c .before .write-line .ensures .0) (c .before .write-line .ensures .1)
 
 returns-3 : tie.Need-returns-3
 returns-3 c =
-    let at = c .before in
+    let at = c .before .before .before in
     let s = at .before .before .before .before .before .before .before .before in
     let a = s .args in
-    turned-end (a .file .now) (dayAt (a .board .now) (a .out .now) (a .light)) _ (fields (a .bytes .now)) (a .light) _ _ _ (s .pre .0 .light-inside) (c .ended2 .ensures)
-    (sym (at .enum-told2 .given .1) ∙ at .before .before .read-entry .ensures)
+    turned-end (a .file .now) (a .first) (dayAt (a .board .now) (a .out .now) (a .light)) _ (fields (a .bytes .now)) (a .light) _ _ _ (s .pre .0 .light-inside) _ (c .ended2 .ensures)
+    (sym (at .enum-told2 .given .1) ∙ at .before .before .read-entry .ensures) (c .before .write-end .ensures .0) (c .before .write-end .ensures .1)
 
 pub turn-spec : {M : Type 1} → statement M
 turn-spec =
@@ -76,6 +79,7 @@ turn-spec =
     write-line-requires
     ended-requires
     enum-told-2
+    write-end-requires
     ended-requires-2
     same-length
     same-length-2

@@ -1,6 +1,6 @@
 -- Laws of a buffer of which a part was lent to a read.
 -- Assumes nothing.
-use Prim.Native.Nat.{ℕ, _+_, _-_, _≤_}
+use Prim.Native.Nat.{ℕ, _+_, _≤_}
 use native.Mathlib.Omega.{arith}
 use mathlib.Core.Path.{_≡_, sym}
 use mathlib.Core.List.{List, _++_}
@@ -21,12 +21,11 @@ read-front d e got room same h =
     let whole = length-front d e fieldHeader same in
     (omega arith, omega arith)
 
--- a value's place behind the header
-pub read-part : (d e : List ℕ) (got want more : ℕ) → fieldHeader + routeSize ≤ length d → got ≤ fieldHeader → want ≤ routeSize
-    → length e ≡ length (midOf got (got + want - got) d) → more ≤ length e
-    → (more ≤ routeSize) × (got + more ≤ length (putMid got (got + want - got) d e))
-read-part d e got want more room few short same h =
+-- a part of the buffer, from `got` on
+pub read-part : (d e : List ℕ) (got width more : ℕ) → got + width ≤ length d → length e ≡ length (midOf got width d) → more ≤ length e
+    → (more ≤ width) × (got + more ≤ length (putMid got width d e))
+read-part d e got width more room same h =
     let rest = length-drop got d in
-    let size = length-take-le (got + want - got) (drop got d) (omega arith) in
-    let whole = same-len-mid got (got + want - got) d e same in
+    let size = length-take-le width (drop got d) (omega arith) in
+    let whole = same-len-mid got width d e same in
     (omega arith, omega arith)
