@@ -5,18 +5,20 @@ use crate::desk::Answer;
 use crate::literal::{fields, number, put, Light, Site, Step};
 use std::sync::OnceLock;
 
-/// The faults: those of document 01 under "Wrong desks", then smaller ones, then refusals of a call in the wrong order.
+/// The faults: those of document 01 under "Wrong desks", then smaller ones, then refusals of a call in the wrong order, then those of the day
+/// program with an empty script.
 #[rustfmt::skip]
-pub const FAULTS: [&str; 47] = [
+pub const FAULTS: [&str; 52] = [
     "earliest", "endpoints", "rolling", "swap", "no-plan", "empty-light", "first-step", "no-mark", "light-edition", "interval-end",
     "unmerged", "highest", "motion-first", "edition", "work-kept", "work-long", "tail", "refused-write", "low-byte", "unknown-free",
     "withdraw-edition", "interval-tail", "board-longer", "light-trailing", "stands-edition", "arrival",
     "site-1-2", "site-2-3", "site-5-6", "site-6-7", "interval-10-14",
     "route-9-10", "route-10-11", "route-11-12", "route-12-14", "close-9-10", "close-10-12", "close-12-15", "close-15-17",
     "withdraw-9-13", "withdraw-13-15", "light-9-10", "light-10-11", "light-11-12", "light-12-15", "light-15-16", "light-16-17",
+    "quiet-silent", "quiet-refused", "quiet-cut", "quiet-always", "quiet-unreadable",
 ];
 
-fn fault(name: &str) -> bool {
+pub fn fault(name: &str) -> bool {
     static NAME: OnceLock<String> = OnceLock::new();
     let chosen = NAME.get_or_init(|| {
         let chosen = std::env::var("DESK_FAULT").unwrap_or_default();

@@ -1,8 +1,10 @@
 //! The day program on the simple desk, only with the feature `standin`: it is there to try the day tests.
 
 use dispatch_tests::literal::{number, Site};
-use dispatch_tests::standin as desk;
+use dispatch_tests::standin::{self as desk, fault};
+use std::fs::File;
 use std::io::Read;
+use std::os::fd::AsFd;
 
 fn main() {
     let site = std::fs::read("site.bin").unwrap_or_default();
@@ -10,29 +12,30 @@ fn main() {
     let len = Site::read(&site).map_or(0, |site| site.board_len());
     let board = if len <= area.len() { &mut area[..len] } else { &mut area[..] };
     let opened = desk::open(&site, board);
+    // Not by the library's own standard input, which takes one that is not open for reading for an empty one.
+    let mut script = File::from(std::io::stdin().as_fd().try_clone_to_owned().unwrap());
     if opened.number != 0 {
-        println!("{} 0 0", opened.number);
+        let empty = fault("quiet-refused") && script.read(&mut [0]).is_ok_and(|n| n == 0);
+        println!("{} 0 0", if empty { 0 } else { opened.number });
         return;
     }
-    let mut script = std::io::stdin().lock();
     let mut light = Vec::new();
     let mut empty = true;
     loop {
         let mut head = [0u8; 3];
-        let mut got = 0;
-        let mut unreadable = false;
+        let (mut got, mut unreadable) = (0, false);
         while got < 3 {
             match script.read(&mut head[got..]) {
                 Ok(0) => break,
                 Ok(n) => got += n,
                 Err(_) => {
-                    unreadable = true;
+                    unreadable = !fault("quiet-unreadable");
                     break;
                 }
             }
         }
-        if got == 0 && !unreadable {
-            if empty {
+        if (got == 0 && !unreadable) || (got == 1 && empty && fault("quiet-cut")) {
+            if (empty && !fault("quiet-silent")) || fault("quiet-always") {
                 println!("0 0 0");
             }
             return;
