@@ -134,6 +134,19 @@ fn unreadable_script() {
     assert_eq!(printed(start(&folder, of_folder.into())), "99 0 0\n", "a folder");
     let write_only = fs::File::create(folder.join("written")).unwrap();
     assert_eq!(printed(start(&folder, write_only.into())), "99 0 0\n", "a file open for writing");
+    // Not with the stand-in: a program in Rust has the null device in place of an input that is closed.
+    #[cfg(not(feature = "standin"))]
+    {
+        let closed = Command::new("sh")
+            .args(["-c", "exec \"$0\" <&-"])
+            .arg(program())
+            .current_dir(&folder)
+            .stdout(Stdio::piped())
+            .stderr(Stdio::piped())
+            .spawn()
+            .unwrap();
+        assert_eq!(printed(closed), "99 0 0\n", "closed");
+    }
 }
 
 #[test]
