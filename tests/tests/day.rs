@@ -105,7 +105,7 @@ fn quiet_shift() {
     assert_eq!(output(&folder, &[]), "3 0 0\n", "no site.bin");
 }
 
-/// Nothing is printed before the script has come to its end or has a field.
+/// A script that comes slowly is waited for: it is neither empty nor cut.
 #[test]
 fn late_script() {
     let folder = folder("late");

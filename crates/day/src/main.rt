@@ -1,5 +1,6 @@
 // The day program: the site from site.bin, an opened board, and a script from standard input, one line for each of its fields, or one for
-// an empty script. What opening and a field come to is proved in `day_opening` and `day_turns`; here bytes are read, handed over and printed.
+// an empty script. What opening and a turn come to is proved in `day_opening` and `day_turns`; here what was read is handed to them, and what
+// they wrote is printed.
 use day_lines::LINE;
 use day_opening::Opening;
 use day_orders::PIECE;
@@ -19,7 +20,7 @@ const AREA: usize = 65536;
 
 const WORDS: usize = AREA / 4;
 
-// Reads a field, performs its call and prints its line.
+// Reads what is next of the script, takes its turn and prints the line that it has.
 fn run_turn(
     file: &[u8],
     board: &mut [u8],

@@ -103,8 +103,5 @@ module _ (file area : List ℕ) (need : ℕ) (inside : length (take need area) �
       let (some, told) = by-number n (meant file (onBoard (dayBoard file)) opening .number) (e ∙ ap answerOf number) in
       rw (← same) (record { number = some; counted = counted; front = front ∙ ap (λ (m : ℕ). textOf (line m 0 0)) told })
 
-pub not-refused : {X : Type 0} (m n : ℕ) → Opened m ≡ Refused n → X
-not-refused m n e = absurd (let y : _≡_ {A = ℕ} 0 1 = cc in omega arith)
-
 pub not-opened : {X : Type 0} (m n : ℕ) → Refused m ≡ Opened n → X
 not-opened m n e = absurd (let y : _≡_ {A = ℕ} 0 1 = cc in omega arith)

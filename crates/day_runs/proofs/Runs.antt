@@ -1,5 +1,5 @@
--- What the day program may print, over what the contracts of `day_opening::start` and `day_turns::turn` promise and nothing else of the code.
--- `Learnt` and its arguments are those of crates/desk_board/proofs/ContractLaws.antt.
+-- What the day program may print, over what the contracts of `day_opening::start` and `day_turns::turn` promise. Of the code nothing else
+-- enters but that the site file, which is lent for reading, is the same at every call. `Learnt` and its arguments are those of crates/desk_board/proofs/ContractLaws.antt.
 -- Assumes nothing.
 use Prim.Native.Nat.{ℕ, zero, suc}
 use mathlib.Core.Path.{_≡_, refl, sym, ap, _∙_, subst}
@@ -47,7 +47,7 @@ pub data RunPrints : List ℕ → List ℕ → List ℕ → Type 0 where
       → RunPrints (now file) script (take n (now line′))
   opened : (κs : Lfts 3) (file area line file′ area′ line′ : RefT (List ℕ)) (script text : List ℕ) (n : ℕ)
       → start-reads.Learnt κs (file, (area, (line, tt))) (Opened n) (file′, (area′, (line′, tt)))
-      → TurnsPrint (now file) true script (record { board = take n (now area′); light = [] }) text
+      → TurnsPrint (now file) true script (dayAt (take n (now area′)) [] 0) text
       → RunPrints (now file) script text
 
 -- ---- a turn's text and the day after it are those of the definitions
@@ -82,7 +82,7 @@ day-turns (RunPrints.refused κs file area line file′ area′ line′ script n
     refused-turns (now file) script n (now line′) (p .1 n refl) (start (now file) .number) refl
 day-turns (RunPrints.opened κs file area line file′ area′ line′ script text n p more) =
     let o : Opens (now file) n (now area′) = p .0 n refl in
-    DayTurns.opened (o .number) (subst (λ (board : List ℕ). Turns (now file) true script (some (record { board = board; light = [] })) text) (o .front) (turns-print more))
+    DayTurns.opened (o .number) (subst (λ (board : List ℕ). Turns (now file) true script (some (dayAt board [] 0)) text) (o .front) (turns-print more))
 
 -- a run prints the text that is meant, and no other
 pub run-prints : (file script text : List ℕ) → RunPrints file script text → text ≡ dayText file script

@@ -18,7 +18,7 @@ use Rattle.meaning.specs.Site.{Site, siteOf, readSite}
 use Rattle.meaning.specs.Board.{boardLength}
 use Rattle.meaning.specs.Plan.{Node}
 use Rattle.meaning.specs.Calls.{Call, route, audit, post, close, withdraw, opening, listed, Lent, lends, onBoard, Done, acceptedDone, refusedDone}
-use Rattle.meaning.specs.Day.{Line, line, Day, isField, callOf, dayDone, lineThen, linesFrom, dayBoard, opened, dayLines, textOf, texts, dayText, wanted, piece, lineNext, dayBy, dayNext, linesOn}
+use Rattle.meaning.specs.Day.{Line, line, Day, isField, callOf, dayDone, lineThen, linesFrom, dayBoard, dayOpened, opened, dayLines, textOf, texts, dayText, wanted, piece, lineNext, dayBy, dayNext, linesOn}
 use Rattle.meaning.specs.DayPrints.{ScriptField, start}
 use Rattle.meaning.specs.Laws.{Turns, ended, turned, DayTurns}
 use Rattle.meaning.proofs.BasicsLaws.{decide, options, and-left, and-right, u16-back}
@@ -219,7 +219,7 @@ module _ (file : List ℕ) where
   not-quiet cut d some-field = refl
   not-quiet (next f fs) d some-field = refl
 
-  first-text : (script text : List ℕ) → Turns file true script (some (record { board = start file .lent .board; light = [] })) text
+  first-text : (script text : List ℕ) → Turns file true script (some (dayOpened (start file))) text
       → text ≡ texts (opened file script (start file) 0)
   first-text [] text (turned {text = later} {d = d} more) =
       let gone : fields (piece []) ≡ end = ap fields (take-nil (3 + wanted [])) ∙ fields-end [] refl in
@@ -263,7 +263,7 @@ module _ (file : List ℕ) where
     where
       by-number : (n : ℕ) → start file .number ≡ n → DayTurns file script (dayText file script)
       by-number zero e =
-          let (text, p) = some-text (length script) true script (record { board = start file .lent .board; light = [] }) (omega arith) in
+          let (text, p) = some-text (length script) true script (dayOpened (start file)) (omega arith) in
           let one : DayTurns file script text = DayTurns.opened e p in
           subst (DayTurns file script) (only-that script text one) one
       by-number (suc n) e =

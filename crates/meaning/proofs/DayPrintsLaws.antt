@@ -16,7 +16,7 @@ use Rattle.meaning.specs.Site.{siteOf}
 use Rattle.meaning.specs.Board.{edition}
 use Rattle.meaning.specs.Plan.{Node}
 use Rattle.meaning.specs.Calls.{Call, route, audit, post, close, withdraw, listed, Lent, lends, Done, acceptedDone}
-use Rattle.meaning.specs.Day.{Line, line, badLine, quietLine, Day, callOf, dayDone, arrivalOf, lastLight, lineOf, dayAfter, lineThen, linesFrom, opened, decimalBy, decimal, textOf, texts, dayText}
+use Rattle.meaning.specs.Day.{Line, line, badLine, quietLine, Day, callOf, dayDone, arrivalOf, lastLight, lineOf, dayAfter, lineThen, linesFrom, dayOpened, opened, decimalBy, decimal, textOf, texts, dayText}
 use Rattle.meaning.specs.DayPrints as words
 use Rattle.meaning.specs.DayPrints.{Digits, LineText, ScriptField, Begins, IsRoute, Prints, start, DayPrints}
 use Rattle.meaning.specs.Laws.{DayRight}
@@ -245,12 +245,9 @@ module _ (file : List ℕ) where
 
   -- ---- the whole program
 
-  abbrev first : Day
-  first = record { board = start file .lent .board; light = [] }
-
   open-prints : (script : List ℕ) → Bytes script → start file .number ≡ 0 → DayPrints file script (texts (opened file script (start file) 0))
   open-prints [] b e = DayPrints.quiet e refl (last-text quietLine)
-  open-prints (x ∷ s) b e = DayPrints.opened e (omega arith) (print-all (length (x ∷ s)) (x ∷ s) (omega arith) b first)
+  open-prints (x ∷ s) b e = DayPrints.opened e (omega arith) (print-all (length (x ∷ s)) (x ∷ s) (omega arith) b (dayOpened (start file)))
 
   prints : (script : List ℕ) → Bytes script → DayPrints file script (dayText file script)
   prints script b = by-number (start file .number) refl
@@ -259,7 +256,7 @@ module _ (file : List ℕ) where
       by-number zero e = subst (DayPrints file script) (sym (day.day-text file script 0 e)) (open-prints script b e)
       by-number (suc n) e = subst (DayPrints file script) (sym (day.day-text file script (suc n) e)) (DayPrints.refused e (last-text (line (suc n) 0 0)))
 
-  open-only : (script text : List ℕ) → Bytes script → 1 ≤ length script → Prints file (first .board) [] script text
+  open-only : (script text : List ℕ) → Bytes script → 1 ≤ length script → Prints file (start file .lent .board) [] script text
       → text ≡ texts (opened file script (start file) 0)
   open-only [] text b some-byte p = absurd (omega arith)
   open-only (x ∷ s) text b some-byte p = only-prints p b
@@ -296,7 +293,7 @@ module _ (file : List ℕ) where
       by-number : (s : List ℕ) (n : ℕ) → 1 ≤ length (texts (opened file s (start file) n))
       by-number s (suc n) = some-text (line (suc n) 0 0) []
       by-number [] zero = some-text quietLine []
-      by-number (b ∷ s) zero = some-line (fields (b ∷ s)) first (fields-some b s)
+      by-number (b ∷ s) zero = some-line (fields (b ∷ s)) (dayOpened (start file)) (fields-some b s)
 
 pub day-right : DayRight
 day-right = record {

@@ -88,11 +88,15 @@ linesFrom file (next f fs) d = lineThen file d (callOf (d .light) f) (linesFrom 
 abbrev pub dayBoard : List ℕ → List ℕ
 dayBoard file = take (boardLength (siteOf file)) (replicate dayArea 0)
 
+-- the board just opened, and no light yet
+abbrev pub dayOpened : Done → Day
+dayOpened x = record { board = x .lent .board; light = [] }
+
 -- a refused open prints its number and ends; after an accepted one an empty script prints one line, and any other those of its fields
 abbrev pub opened : List ℕ → List ℕ → Done → ℕ → List Line
 opened file script x (suc n) = line (suc n) 0 0 ∷ []
 opened file [] x zero = quietLine ∷ []
-opened file (b ∷ script) x zero = linesFrom file (fields (b ∷ script)) (record { board = x .lent .board; light = [] })
+opened file (b ∷ script) x zero = linesFrom file (fields (b ∷ script)) (dayOpened x)
 
 unfoldable pub dayLines : List ℕ → List ℕ → List Line
 dayLines file script =

@@ -17,7 +17,7 @@ use Rattle.meaning.specs.Light.{Light, encode, decode}
 use Rattle.meaning.specs.Intervals.{Interval, intervals, numbersOf}
 use Rattle.meaning.specs.Calls.{Call, PublicCall, Lent, refusals}
 use Rattle.meaning.specs.PlainBoard.{hasPair}
-use Rattle.meaning.specs.Day.{line, Day, callOf, textOf, texts, dayText, piece, lineNext, dayNext}
+use Rattle.meaning.specs.Day.{line, Day, callOf, dayOpened, textOf, texts, dayText, piece, lineNext, dayNext}
 use Rattle.meaning.specs.DayPrints.{LineText, ScriptField, start, DayPrints}
 use Rattle.meaning.specs.ValidPlans.{Valid, Reached, Arrival, Holds, Traced, mergeWaits}
 use Rattle.meaning.specs.SafeIntervals.{AllSafeIntervals}
@@ -120,7 +120,7 @@ pub data Turns (file : List ℕ) : Bool → List ℕ → Option Day → List ℕ
 pub data DayTurns (file script : List ℕ) : List ℕ → Type 0 where
   not-opened : {n : ℕ} → start file .number ≡ suc n → DayTurns file script (textOf (line (suc n) 0 0))
   opened : {text : List ℕ} → start file .number ≡ 0
-      → Turns file true script (some (record { board = start file .lent .board; light = [] })) text
+      → Turns file true script (some (dayOpened (start file))) text
       → DayTurns file script text
 
 pub record DayRight : Type 0 where

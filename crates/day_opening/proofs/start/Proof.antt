@@ -9,7 +9,7 @@ use Rattle.meaning.specs.Limits.{dayArea}
 use Rattle.meaning.specs.Answers.{lowest}
 use Rattle.meaning.specs.Site.{siteOf, siteRefusals}
 use Rattle.meaning.specs.Board.{boardLength}
-use Rattle.day_opening.proofs.OpeningLaws.{opened, refused, not-refused, not-opened}
+use Rattle.day_opening.proofs.OpeningLaws.{opened, refused, not-opened}
 use Rattle.day_opening.proofs.start.Statement.{statement}
 use Rattle.day_opening.proofs.start.Tie as tie
 
@@ -58,7 +58,7 @@ returns c =
     let a = start at .args in
     let e = sym (c .enum-told .given .1) ∙ called .«open» .ensures .0 in (
       opened (a .file .now) (a .area .now) (at .board-need .result) (inside at) (part at) e _ (called .«open» .ensures .1 .0),
-      λ n. not-refused _ n,
+      λ n same. not-opened n _ (sym same),
     )
 
 same-length-2 : tie.Need-same-length-2
