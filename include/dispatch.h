@@ -11,7 +11,7 @@
  * are aligned for their elements, to 2 and to 4 bytes. An area of length 0 may be a null pointer.
  *
  * A call keeps nothing between calls and takes no memory but the stack: dispatch_route up to 600,000 bytes,
- * dispatch_audit and dispatch_post up to 60,000 (a light of 1,000 steps is read by recursion), the others
+ * dispatch_audit and dispatch_post up to 61,000 (a light of 1,000 steps is read by recursion), the others
  * up to 4,000. So calls from several threads need no lock, as long as none writes what another is lent.
  *
  * What each call returns and writes is proved: crates/dispatch_c/src/lib.rt has the contracts, and
@@ -33,17 +33,19 @@ uint64_t dispatch_open(const uint8_t *site, size_t site_len, uint8_t *board, siz
 uint64_t dispatch_interval(const uint8_t *site, size_t site_len, const uint8_t *board, size_t board_len,
                            uint16_t cell, uint16_t *out, size_t out_len);
 
-/* Writes the light of the traced plan with the least arrival into out, which has at least 16 + 5 * H bytes. The working
- * area has at least S * (H + 1) words, which are zero afterwards. */
+/* Writes the light of the traced plan with the least arrival into out, which has at least 18 + 5 * H bytes. The working
+ * area has at least S * (H + 1) words, which are zero afterwards. dwell is the time that the tug unloads on its goal
+ * cell, 0 to 1,000 ticks: the cell is free from the arrival to arrival + dwell, which is at most H, and among the plans
+ * that can unload so the arrival is the least. A dwell above 1,000 is refused with 10, one for which no plan has room with 18. */
 uint64_t dispatch_route(const uint8_t *site, size_t site_len, const uint8_t *board, size_t board_len,
-                        uint8_t tug, uint16_t start, uint16_t tick, uint16_t goal,
+                        uint8_t tug, uint16_t start, uint16_t tick, uint16_t goal, uint16_t dwell,
                         uint8_t *out, size_t out_len, uint32_t *work, size_t work_len);
 
 /* Answers as dispatch_post would, and writes nothing. */
 uint64_t dispatch_audit(const uint8_t *site, size_t site_len, const uint8_t *board, size_t board_len,
                         const uint8_t *light, size_t light_len);
 
-/* Writes the light's tug over the pairs that its plan holds, and adds 1 to the edition. */
+/* Writes the light's tug over the pairs that its plan holds, those of its dwell among them, and adds 1 to the edition. */
 uint64_t dispatch_post(const uint8_t *site, size_t site_len, uint8_t *board, size_t board_len,
                        const uint8_t *light, size_t light_len);
 

@@ -36,10 +36,11 @@ pub fn transcript(site: Option<&[u8]>, script: &[u8]) -> String {
         let number = match (tag, length) {
             (32, 6) => plain::close(site, &mut board, value[0], value[1] as u16, be16(&value[2..]), be16(&value[4..])).number,
             (33, 1) => plain::withdraw(site, &mut board, value[0]).number,
-            (34, 7) => {
+            (34, 9) => {
                 let mut out = vec![0; AREA];
                 let mut work = vec![0; AREA / 4];
-                let answer = plain::route(site, &board, value[0], be16(&value[1..]), be16(&value[3..]), be16(&value[5..]), &mut out, &mut work);
+                let answer =
+                    plain::route(site, &board, value[0], be16(&value[1..]), be16(&value[3..]), be16(&value[5..]), be16(&value[7..]), &mut out, &mut work);
                 if answer.number == 0 {
                     out.truncate(answer.value as usize);
                     light = out;

@@ -37,6 +37,7 @@ mod archive {
             start: u16,
             tick: u16,
             goal: u16,
+            dwell: u16,
             out: *mut u8,
             out_len: usize,
             work: *mut u32,
@@ -59,7 +60,7 @@ mod archive {
     }
 
     #[allow(clippy::too_many_arguments)]
-    pub fn route(site: &[u8], board: &[u8], tug: u8, start: u16, tick: u16, goal: u16, out: &mut [u8], work: &mut [u32]) -> Answer {
+    pub fn route(site: &[u8], board: &[u8], tug: u8, start: u16, tick: u16, goal: u16, dwell: u16, out: &mut [u8], work: &mut [u32]) -> Answer {
         Answer::of(unsafe {
             dispatch_route(
                 site.as_ptr(),
@@ -70,6 +71,7 @@ mod archive {
                 start,
                 tick,
                 goal,
+                dwell,
                 out.as_mut_ptr(),
                 out.len(),
                 work.as_mut_ptr(),

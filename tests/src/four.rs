@@ -26,8 +26,8 @@ pub fn bytes() -> Vec<u8> {
     encode(&site())
 }
 
-/// The light of case B, as document 01 prints it.
-pub const B_LIGHT: &str = "10 000D 00000001 07 0000 0000 0004 000A, 11 0002 0005, 12 0002 0000, 12 0002 0001, 12 0002 0002";
+/// The light of case B, as document 01 prints it, with the head of document 02's request 2, which ends with the dwell: none here.
+pub const B_LIGHT: &str = "10 000F 00000001 07 0000 0000 0004 000A 0000, 11 0002 0005, 12 0002 0000, 12 0002 0001, 12 0002 0002";
 
 pub fn hex(text: &str) -> Vec<u8> {
     let digits: Vec<u8> = text.chars().filter_map(|c| c.to_digit(16)).map(|d| d as u8).collect();

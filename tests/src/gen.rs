@@ -1,6 +1,6 @@
 //! Seeded generators: sites, damaged files, boards, lights and calls.
 
-use crate::literal::{encode, encode_fields, number, put, Light, Motion, Site, State, Step, Sweep};
+use crate::literal::{encode, encode_fields, number, put, with_head, Light, Motion, Site, State, Step, Sweep, MAX_DWELL};
 use crate::plain;
 
 /// A small generator of numbers (splitmix64), so that a seed gives the same run everywhere.
@@ -51,6 +51,8 @@ pub enum Size {
     /// Cells in a row, joined as in 'Four in line', where tugs stand in each other's way.
     Row,
     Small,
+    /// Few states and many ticks, so that a dwell can have more than 255.
+    Long,
     Middle,
     /// At or near every limit: H 1,000, 255 cells, 256 states, 2,000 motions, 65,536 bytes.
     Large,
@@ -154,6 +156,7 @@ pub fn site(rng: &mut Rng, size: Size) -> Site {
         Size::Row => return row_site(rng),
         Size::Tiny => (rng.range(1, 12), rng.range(1, 4), rng.range(1, 4), rng.below(9)),
         Size::Small => (rng.range(5, 40), rng.range(1, 9), rng.range(2, 10), rng.range(1, 30)),
+        Size::Long => (rng.range(300, 500), rng.range(1, 4), rng.range(1, 5), rng.below(12)),
         Size::Middle => (rng.range(60, 200), rng.range(3, 40), rng.range(10, 90), rng.range(30, 240)),
         Size::Large => (rng.pick(&[1_000, 1_000, 999, 960]), rng.pick(&[255, 254, 40]), rng.pick(&[256, 255, 65]), rng.pick(&[2_000, 1_999, 1_200])),
     };
@@ -435,6 +438,31 @@ fn length(rng: &mut Rng, needed: usize, bad: usize) -> usize {
     needed + if rng.percent(20) { rng.range(1, 40) } else { 0 }
 }
 
+/// A number near a limit that can be kept, on both sides of it.
+fn about(rng: &mut Rng, limit: usize) -> u16 {
+    rng.pick(&[limit.saturating_sub(1), limit, limit, limit + 1, limit + 1, limit + 2]).min(65_535) as u16
+}
+
+/// A dwell that is too large: just so, by far, or right in its low byte only.
+fn large_dwell(rng: &mut Rng) -> u16 {
+    let short = rng.below(8) as u16;
+    rng.pick(&[MAX_DWELL + 1, MAX_DWELL + 1, MAX_DWELL + 2, 1_024 + short, 65_535])
+}
+
+/// A dwell where `left` ticks remain until H: often none, else short, of any length or as long as these, or at a limit.
+fn dwell(rng: &mut Rng, left: usize, bad: usize) -> u16 {
+    if rng.percent(bad / 2) {
+        return large_dwell(rng);
+    }
+    match rng.below(12) {
+        0..=5 => 0,
+        6..=8 => rng.range(1, 4) as u16,
+        9 => rng.range(0, left) as u16,
+        10 => about(rng, left),
+        _ => rng.pick(&[255, 256, 257, MAX_DWELL - 1, MAX_DWELL]),
+    }
+}
+
 /// How often an argument is bad: mostly seldom, so that calls are accepted or meet the late refusals;
 /// sometimes often, so that several refusals apply and their order shows.
 fn badness(rng: &mut Rng) -> usize {
@@ -445,7 +473,7 @@ fn badness(rng: &mut Rng) -> usize {
 pub enum Call {
     Open,
     Interval { cell: u16, out: usize },
-    Route { tug: u8, start: u16, tick: u16, goal: u16, out: usize, work: usize },
+    Route { tug: u8, start: u16, tick: u16, goal: u16, dwell: u16, out: usize, work: usize },
     Audit { light: Vec<u8> },
     Post { light: Vec<u8> },
     Close { holder: u8, cell: u16, first: u16, last: u16 },
@@ -519,17 +547,42 @@ impl Caller<'_> {
         }
     }
 
+    /// The arrival and light of a route on this board, if it is granted.
+    fn ask(&self, board: &[u8], tug: u8, start: u16, tick: u16, goal: u16, dwell: u16) -> Option<(u16, Vec<u8>)> {
+        let mut out = vec![0; self.site.output_len()];
+        let mut work = vec![0; self.site.states.len() * (self.site.h + 1)];
+        let answer = plain::route(self.file, board, tug, start, tick, goal, dwell, &mut out, &mut work);
+        out.truncate(answer.value as usize);
+        (answer.number == 0).then_some((answer.arrival as u16, out))
+    }
+
+    /// The longest dwell that a state's cell has room for from a tick on.
+    fn stay(&self, board: &[u8], state: u16, tick: u16) -> usize {
+        let ticks = self.site.h + 1;
+        if board.len() != self.site.board_len() || state as usize >= self.site.states.len() {
+            return 0;
+        }
+        let row = &board[4 + self.site.cell(state as usize) * ticks..][..ticks];
+        row.iter().skip(tick as usize + 1).take_while(|&&byte| byte == 0).count()
+    }
+
     fn route(&self, rng: &mut Rng, board: &[u8], bad: usize) -> Call {
         let (s, h) = (self.site.states.len(), self.site.h);
+        let tug = self.holder(rng, board, (1, 199), bad);
+        let (start, tick) = (near(rng, s, bad / 2), self.start_tick(rng, bad / 2));
         let goal = if rng.percent(95 - bad) { self.standing_state(rng) } else { near(rng, s, bad) };
-        Call::Route {
-            tug: self.holder(rng, board, (1, 199), bad),
-            start: near(rng, s, bad / 2),
-            tick: self.start_tick(rng, bad / 2),
-            goal,
-            out: length(rng, 16 + 5 * h, bad),
-            work: length(rng, s * (h + 1), bad),
+        let mut dwell = dwell(rng, h.saturating_sub(tick as usize), bad);
+        if rng.percent(35) {
+            // About what the goal's cell has room for at the first arrival, so that tugs come too early to unload. Mostly where the cell is held
+            // again before H: elsewhere a later arrival has even less room.
+            if let Some((arrival, _)) = self.ask(board, tug, start, tick, goal, 0) {
+                let stay = self.stay(board, goal, arrival);
+                if arrival as usize + stay < h || rng.percent(25) {
+                    dwell = about(rng, stay);
+                }
+            }
         }
+        Call::Route { tug, start, tick, goal, dwell, out: length(rng, self.site.output_len(), bad), work: length(rng, s * (h + 1), bad) }
     }
 
     /// A light whose states join: waits and motions as they come, mostly with the right goal and arrival.
@@ -559,19 +612,24 @@ impl Caller<'_> {
         let edition = if board.len() >= 4 { number(&board[..4]) as u32 } else { 0 };
         let goal = if rng.percent(95) { state as u16 } else { self.standing_state(rng) };
         let arrival = at.min(65_535) as u16;
-        Light { edition, tug: self.holder(rng, board, (1, 199), bad), start, tick, goal, arrival, steps }
+        let dwell = dwell(rng, site.h.saturating_sub(at), bad);
+        Light { edition, tug: self.holder(rng, board, (1, 199), bad), start, tick, goal, arrival, dwell, steps }
     }
 
-    /// The light of a route on this board, if the one tried is granted.
+    /// The light of a route on this board, if the one tried is granted; sometimes with another dwell.
     fn routed(&self, rng: &mut Rng, board: &[u8]) -> Option<Vec<u8>> {
         let (s, h) = (self.site.states.len(), self.site.h);
-        let mut out = vec![0; 16 + 5 * h];
-        let mut work = vec![0; s * (h + 1)];
         let tug = rng.range(1, 199) as u8;
         let (start, tick, goal) = (rng.below(s) as u16, rng.below(1 + h / 2) as u16, self.standing_state(rng));
-        let answer = plain::route(self.file, board, tug, start, tick, goal, &mut out, &mut work);
-        out.truncate(answer.value as usize);
-        (answer.number == 0).then_some(out)
+        let dwell = dwell(rng, h - tick as usize, 0);
+        let (arrival, bytes) = self.ask(board, tug, start, tick, goal, dwell)?;
+        if rng.percent(80) {
+            return Some(bytes);
+        }
+        // Unloads for about as long as it can, whatever the route was asked for.
+        let mut light = Light::read(&bytes)?;
+        light.dwell = about(rng, self.stay(board, goal, arrival));
+        Some(light.encode())
     }
 
     /// Any bytes: lights of routes, walks and earlier lights, as they are or changed.
@@ -600,7 +658,7 @@ impl Caller<'_> {
         if rng.percent(60) {
             return base;
         }
-        self.changed(rng, base)
+        self.changed(rng, base, board)
     }
 
     /// A light with several bad fields at once.
@@ -612,19 +670,20 @@ impl Caller<'_> {
         if rng.percent(bad) {
             light.edition ^= 1;
         }
-        match rng.below(8) {
+        match rng.below(9) {
             0 => light.start = near(rng, s, bad),
             1 => light.tick = near(rng, h + 1, bad),
             2 => light.arrival = near(rng, h + 1, bad),
             3 => light.steps.push(Step::Move(near(rng, m, bad))),
             4 => light.steps.push(Step::Wait(0)),
+            5 => light.dwell = large_dwell(rng),
             _ => {}
         }
         light.encode()
     }
 
-    fn changed(&self, rng: &mut Rng, mut bytes: Vec<u8>) -> Vec<u8> {
-        match rng.below(12) {
+    fn changed(&self, rng: &mut Rng, mut bytes: Vec<u8>, board: &[u8]) -> Vec<u8> {
+        match rng.below(14) {
             0 => {
                 let n = rng.below(bytes.len() + 1);
                 bytes.truncate(n);
@@ -640,11 +699,16 @@ impl Caller<'_> {
                 scratch(rng, &mut bytes);
                 return bytes;
             }
+            4 => {
+                // A head of another length, mostly the one without a dwell.
+                let len = rng.pick(&[13, 13, 13, 14, 16, 17]);
+                return with_head(&bytes, len).unwrap_or(bytes);
+            }
             _ => {}
         }
         let Some(mut light) = Light::read(&bytes) else { return bytes };
         let (s, h, m) = (self.site.states.len(), self.site.h, self.site.motions.len().max(1));
-        match rng.below(14) {
+        match rng.below(20) {
             0 => light.edition = light.edition.wrapping_add(rng.pick(&[1, u32::MAX, 256])),
             1 => light.tug = rng.pick(&[0, 199, 200, 255, 1]),
             2 => light.start = near(rng, s, 25),
@@ -673,6 +737,8 @@ impl Caller<'_> {
                     Step::Move(_) => Step::Move(near(rng, m, 25)),
                 };
             }
+            13..=17 => light.dwell = about(rng, self.stay(board, light.goal, light.arrival)),
+            18 => light.dwell = rng.pick(&[MAX_DWELL, MAX_DWELL + 1, light.dwell.swap_bytes(), light.dwell.wrapping_add(1), light.dwell.wrapping_sub(1)]),
             _ => {
                 // A longer stay at the end, which holds more pairs.
                 if !matches!(light.steps.last(), Some(Step::Wait(_))) {
@@ -687,6 +753,14 @@ impl Caller<'_> {
 
     fn close(&self, rng: &mut Rng, board: &[u8], bad: usize) -> Call {
         let ticks = self.site.h + 1;
+        if !self.lights.is_empty() && rng.percent(25) {
+            // Short after a tug that was routed here arrives at its goal, so that others can't unload there.
+            if let Some(light) = Light::read(&self.lights[self.lights.len() - 1]) {
+                let first = light.arrival + rng.range(1, 4) as u16;
+                let last = first + rng.below(3) as u16;
+                return Call::Close { holder: self.holder(rng, board, (200, 254), bad), cell: self.site.cell(light.goal as usize) as u16, first, last };
+            }
+        }
         let first = near(rng, ticks, bad / 3);
         let last = if rng.percent(bad / 3) {
             rng.pick(&[first.wrapping_sub(1), 0, ticks as u16, 65_535])
@@ -754,9 +828,16 @@ pub fn script(rng: &mut Rng, site: &Site) -> Vec<u8> {
             40..=69 => {
                 let goal = if rng.percent(80) && !standing.is_empty() { rng.pick(&standing) as u16 } else { near(rng, s, 4) };
                 let start = near(rng, s, 4).to_be_bytes();
-                let tick = near(rng, ticks, 4).to_be_bytes();
-                let goal = goal.to_be_bytes();
-                put(&mut bytes, 34, &[rng.range(1, tugs) as u8, start[0], start[1], tick[0], tick[1], goal[0], goal[1]]);
+                let tick = near(rng, ticks, 4);
+                let dwell = dwell(rng, site.h.saturating_sub(tick as usize) / 2, 4).to_be_bytes();
+                let (tick, goal) = (tick.to_be_bytes(), goal.to_be_bytes());
+                let mut value = vec![rng.range(1, tugs) as u8];
+                value.extend([start, tick, goal, dwell].concat());
+                if rng.percent(1) {
+                    // Without the dwell, as it was before.
+                    value.truncate(7);
+                }
+                put(&mut bytes, 34, &value);
             }
             70..=98 => put(&mut bytes, 35, &[]),
             _ => put(&mut bytes, rng.pick(&[0, 31, 36, 32, 33, 34, 35]), &[1, 2]),

@@ -2,7 +2,7 @@
 //!
 //! - `desk`: the exported calls, wrapped.
 //! - `plain`: an independent program for the same calls, with a fast timestep search.
-//! - `literal`: the definitions of document 01, written as they read and slow.
+//! - `literal`: the definitions of documents 01 and 02, written as they read and slow.
 //! - `plain_board`: the plain board of document 01, on `literal`.
 //! - `gen`: seeded sites, boards, lights and calls.
 //! - `day`: what the day program must print.

@@ -1,4 +1,4 @@
-//! The definitions of document 01 as they read, with sets and plain loops. Nothing here is made fast.
+//! The definitions of document 01, and of document 02 as far as it has landed, as they read, with sets and plain loops. Nothing here is made fast.
 
 #[derive(Clone, Copy, PartialEq, Eq, Debug)]
 pub struct State {
@@ -43,8 +43,12 @@ pub struct Light {
     pub tick: u16,
     pub goal: u16,
     pub arrival: u16,
+    pub dwell: u16,
     pub steps: Vec<Step>,
 }
+
+/// The longest time at the goal that a route or a light may name, in ticks.
+pub const MAX_DWELL: u16 = 1_000;
 
 /// Unsigned, high byte first.
 pub fn number(bytes: &[u8]) -> usize {
@@ -67,6 +71,20 @@ pub fn put(bytes: &mut Vec<u8>, tag: u8, value: &[u8]) {
     bytes.push(tag);
     bytes.extend((value.len() as u16).to_be_bytes());
     bytes.extend(value);
+}
+
+/// The same fields, but the first one's value cut or lengthened with zeros to a length.
+pub fn with_head(bytes: &[u8], len: usize) -> Option<Vec<u8>> {
+    let all = fields(bytes)?;
+    let &(tag, value) = all.first()?;
+    let mut head = value.to_vec();
+    head.resize(len, 0);
+    let mut changed = Vec::new();
+    put(&mut changed, tag, &head);
+    for (tag, value) in &all[1..] {
+        put(&mut changed, *tag, value);
+    }
+    Some(changed)
 }
 
 impl Motion {
@@ -143,6 +161,11 @@ impl Site {
         4 + self.c * (self.h + 1)
     }
 
+    /// The bytes that a route's output area needs.
+    pub fn output_len(&self) -> usize {
+        18 + 5 * self.h
+    }
+
     /// The cell and tick pairs that a motion holds when it starts at a tick.
     pub fn swept(&self, motion: usize, tick: usize) -> Vec<(usize, usize)> {
         let sweeps = &self.motions[motion].sweeps;
@@ -153,7 +176,12 @@ impl Site {
         tick + self.motions[motion].d as usize <= self.h && self.swept(motion, tick).iter().all(|&(cell, at)| free(cell, at))
     }
 
-    /// The pairs that a light's plan holds if it is a valid plan that ends at the light's goal and arrival.
+    /// The pairs of the goal's cell while a tug unloads, or nothing if a tick of them exceeds H.
+    fn unloading(&self, goal: usize, arrival: usize, dwell: usize) -> Option<Vec<(usize, usize)>> {
+        (arrival + dwell <= self.h).then(|| (arrival..=arrival + dwell).map(|at| (self.cell(goal), at)).collect())
+    }
+
+    /// The pairs that a light's plan holds if it is a valid plan that ends at the light's goal and arrival and unloads there.
     pub fn plan(&self, free: &dyn Fn(usize, usize) -> bool, light: &Light) -> Option<Vec<(usize, usize)>> {
         let (mut state, mut tick) = (light.start as usize, light.tick as usize);
         let mut pairs = vec![(self.cell(state), tick)];
@@ -177,6 +205,7 @@ impl Site {
                 }
             }
         }
+        pairs.extend(self.unloading(state, tick, light.dwell as usize)?);
         let ends = state == light.goal as usize && tick == light.arrival as usize;
         (ends && pairs.iter().all(|&(cell, at)| free(cell, at))).then_some(pairs)
     }
@@ -205,10 +234,11 @@ impl Site {
         })
     }
 
-    /// The steps and arrival of the traced rule, or nothing if the goal is not reached.
-    pub fn route(&self, free: &dyn Fn(usize, usize) -> bool, start: usize, tick: usize, goal: usize) -> Option<(Vec<Step>, usize)> {
+    /// The steps and arrival of the traced rule, or nothing if the goal is not reached at a tick at which the tug can unload.
+    pub fn route(&self, free: &dyn Fn(usize, usize) -> bool, start: usize, tick: usize, goal: usize, dwell: usize) -> Option<(Vec<Step>, usize)> {
         let reached = self.reached(free, start, tick);
-        let arrival = (tick..=self.h).find(|&t| reached[t][goal])?;
+        let unloads = |t: usize| self.unloading(goal, t, dwell).is_some_and(|pairs| pairs.iter().all(|&(cell, at)| free(cell, at)));
+        let arrival = (tick..=self.h).find(|&t| reached[t][goal] && unloads(t))?;
         let mut steps = Vec::new();
         let (mut s, mut t) = (goal, arrival);
         while (s, t) != (start, tick) {
@@ -265,12 +295,12 @@ pub fn encode_fields(site: &Site) -> Vec<(u8, Vec<u8>)> {
 impl Light {
     /// The light of some bytes, or nothing if they are too long, cut short or against the layout.
     pub fn read(bytes: &[u8]) -> Option<Light> {
-        if bytes.len() > 5_016 {
+        if bytes.len() > 5_018 {
             return None;
         }
         let all = fields(bytes)?;
         let &(tag, head) = all.first()?;
-        if tag != 16 || head.len() != 13 {
+        if tag != 16 || head.len() != 15 {
             return None;
         }
         let mut steps = Vec::new();
@@ -291,7 +321,8 @@ impl Light {
             start: number(&head[5..7]) as u16,
             tick: number(&head[7..9]) as u16,
             goal: number(&head[9..11]) as u16,
-            arrival: number(&head[11..]) as u16,
+            arrival: number(&head[11..13]) as u16,
+            dwell: number(&head[13..]) as u16,
             steps,
         })
     }
@@ -300,7 +331,7 @@ impl Light {
         let mut head = Vec::new();
         head.extend(self.edition.to_be_bytes());
         head.push(self.tug);
-        for n in [self.start, self.tick, self.goal, self.arrival] {
+        for n in [self.start, self.tick, self.goal, self.arrival, self.dwell] {
             head.extend(n.to_be_bytes());
         }
         let mut bytes = Vec::new();
@@ -314,13 +345,14 @@ impl Light {
         bytes
     }
 
-    /// Check 10 for a light: states, ticks and motion numbers that are too large.
+    /// Check 10 for a light: states, ticks, motion numbers and a dwell that are too large.
     pub fn too_large(&self, site: &Site) -> bool {
         let s = site.states.len();
         self.start as usize >= s
             || self.goal as usize >= s
             || self.tick as usize > site.h
             || self.arrival as usize > site.h
+            || self.dwell > MAX_DWELL
             || self.steps.iter().any(|step| matches!(*step, Step::Move(k) if k as usize >= site.motions.len()))
     }
 }

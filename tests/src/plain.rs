@@ -1,17 +1,22 @@
 //! An independent program for the seven calls, over the bytes themselves and made fast.
 //!
 //! Route searches timestep by timestep: tick by tick, each pair of a state and a tick is tried at most once,
-//! and the search stops at the arrival. A set of states is 256 bits, so the waits of a tick are a few word operations.
-//! Other pairs are found by the motions from the states reached (push) while these are few, and by the motions that
-//! lead to the states in question (pull) while many are reached. Whether a motion may start at a tick is worked out
-//! for 256 ticks at a time, when first asked.
+//! and the search stops at the arrival, the first tick at which the goal is reached and the tug can unload.
+//! A set of states is 256 bits, so the waits of a tick are a few word operations. Other pairs are found by the motions
+//! from the states reached (push) while these are few, and by the motions that lead to the states in question (pull)
+//! while many are reached. Whether a motion may start at a tick is worked out for 256 ticks at a time, when first asked.
 
 use crate::desk::Answer;
 use std::cell::RefCell;
 
 const MAX_SITE: usize = 65_536;
 const MAX_MOTIONS: usize = 2_000;
-const MAX_LIGHT: usize = 5_016;
+const MAX_LIGHT: usize = 5_018;
+const MAX_DWELL: usize = 1_000;
+/// A light's head: tag, length, and a value of 15 bytes.
+const LIGHT_HEAD: usize = 18;
+/// A light's step: tag, length, and a value of 2 bytes.
+const LIGHT_STEP: usize = 5;
 const HEAD: usize = 8;
 const STATE: usize = 5;
 
@@ -245,17 +250,20 @@ pub fn interval(site: &[u8], board: &[u8], cell: u16, out: &mut [u16]) -> Answer
     Answer { number: 0, value: count as u32, arrival: 0 }
 }
 
-/// The steps of a light that keeps the layout: each has 5 bytes behind the head's 16.
+/// The steps of a light that keeps the layout.
 fn steps(light: &[u8]) -> impl Iterator<Item = (bool, usize)> + '_ {
-    light[16..].chunks_exact(5).map(|step| (step[0] == 17, be16(step, 3)))
+    light[LIGHT_HEAD..].chunks_exact(LIGHT_STEP).map(|step| (step[0] == 17, be16(step, 3)))
 }
 
 fn layout(light: &[u8]) -> bool {
-    if light.len() < 16 || light.len() > MAX_LIGHT || (light.len() - 16) % 5 != 0 || light[0] != 16 || be16(light, 1) != 13 {
+    if light.len() < LIGHT_HEAD || light.len() > MAX_LIGHT || (light.len() - LIGHT_HEAD) % LIGHT_STEP != 0 {
+        return false;
+    }
+    if light[0] != 16 || be16(light, 1) != LIGHT_HEAD - 3 {
         return false;
     }
     let mut after_wait = false;
-    light[16..].chunks_exact(5).all(|step| {
+    light[LIGHT_HEAD..].chunks_exact(LIGHT_STEP).all(|step| {
         let wait = step[0] == 17;
         let good = be16(step, 1) == 2 && if wait { be16(step, 3) != 0 && !after_wait } else { step[0] == 18 };
         after_wait = wait;
@@ -269,12 +277,13 @@ fn check<'a>(site: &'a [u8], board: &[u8], light: &[u8]) -> Result<Site<'a>, u8>
     if !layout(light) {
         return Err(8);
     }
-    let (tug, start, tick, goal, arrival) = (light[7], be16(light, 8), be16(light, 10), be16(light, 12), be16(light, 14));
+    let (tug, start, tick, goal, arrival, dwell) = (light[7], be16(light, 8), be16(light, 10), be16(light, 12), be16(light, 14), be16(light, 16));
     if tug == 0 || tug > 199 {
         return Err(9);
     }
     let motions = site.motions.len();
-    if start >= site.s || goal >= site.s || tick > site.h || arrival > site.h || steps(light).any(|(wait, n)| !wait && n >= motions) {
+    let unknown = start >= site.s || goal >= site.s || steps(light).any(|(wait, n)| !wait && n >= motions);
+    if unknown || tick > site.h || arrival > site.h || dwell > MAX_DWELL {
         return Err(10);
     }
     if !site.standing(goal) {
@@ -309,7 +318,7 @@ fn check<'a>(site: &'a [u8], board: &[u8], light: &[u8]) -> Result<Site<'a>, u8>
             state = motion.to as usize;
         }
     }
-    if state != goal || at != arrival {
+    if state != goal || at != arrival || !site.free(board, site.cell(goal), at, at + dwell) {
         return Err(17);
     }
     Ok(site)
@@ -342,6 +351,7 @@ pub fn post(site: &[u8], board: &mut [u8], light: &[u8]) -> Answer {
             state = motion.to as usize;
         }
     }
+    hold(site.cell(state), at, at + be16(light, 16));
     next_edition(board);
     Answer::plain(0)
 }
@@ -392,16 +402,16 @@ pub fn withdraw(site: &[u8], board: &mut [u8], holder: u8) -> Answer {
 }
 
 #[allow(clippy::too_many_arguments)]
-pub fn route(site: &[u8], board: &[u8], tug: u8, start: u16, tick: u16, goal: u16, out: &mut [u8], work: &mut [u32]) -> Answer {
+pub fn route(site: &[u8], board: &[u8], tug: u8, start: u16, tick: u16, goal: u16, dwell: u16, out: &mut [u8], work: &mut [u32]) -> Answer {
     let site = match enter(site, board) {
         Ok(site) => site,
         Err(number) => return Answer::plain(number),
     };
-    let (start, tick, goal) = (start as usize, tick as usize, goal as usize);
+    let (start, tick, goal, dwell) = (start as usize, tick as usize, goal as usize, dwell as usize);
     if tug == 0 || tug > 199 {
         return Answer::plain(9);
     }
-    if start >= site.s || tick > site.h || goal >= site.s {
+    if start >= site.s || tick > site.h || goal >= site.s || dwell > MAX_DWELL {
         return Answer::plain(10);
     }
     if !site.standing(goal) {
@@ -411,27 +421,27 @@ pub fn route(site: &[u8], board: &[u8], tug: u8, start: u16, tick: u16, goal: u1
         return Answer::plain(12);
     }
     let words = site.s * (site.h + 1);
-    if out.len() < 16 + 5 * site.h || work.len() < words {
+    if out.len() < LIGHT_HEAD + LIGHT_STEP * site.h || work.len() < words {
         return Answer::plain(14);
     }
     work[..words].fill(0);
     SEARCH.with_borrow_mut(|search| {
-        let arrival = match search.run(&site, board, start, tick, goal) {
+        let arrival = match search.run(&site, board, start, tick, goal, dwell) {
             Some(arrival) => arrival,
             None => return Answer::plain(18),
         };
         search.trace(&site, start, tick, goal, arrival);
-        out[..3].copy_from_slice(&[16, 0, 13]);
+        out[..3].copy_from_slice(&[16, 0, LIGHT_HEAD as u8 - 3]);
         out[3..7].copy_from_slice(&board[..4]);
         out[7] = tug;
-        for (i, n) in [start, tick, goal, arrival].into_iter().enumerate() {
+        for (i, n) in [start, tick, goal, arrival, dwell].into_iter().enumerate() {
             out[8 + 2 * i..10 + 2 * i].copy_from_slice(&(n as u16).to_be_bytes());
         }
-        let mut len = 16;
+        let mut len = LIGHT_HEAD;
         for &(tag, n) in search.steps.iter().rev() {
             out[len..len + 3].copy_from_slice(&[tag, 0, 2]);
             out[len + 3..len + 5].copy_from_slice(&n.to_be_bytes());
-            len += 5;
+            len += LIGHT_STEP;
         }
         Answer { number: 0, value: len as u32, arrival: arrival as u32 }
     })
@@ -645,6 +655,24 @@ fn leads(site: &Site, starts: &mut Starts, reached: &[Set; 1_024 + BEFORE], edge
     has(&reached[tick + BEFORE - edge.d as usize], edge.other as usize) && starts.allow(site, edge.motion as usize, tick - edge.d as usize)
 }
 
+/// The goal's cell, asked at rising ticks.
+struct Dock<'a> {
+    row: &'a [u8],
+    /// No tick from the last one asked up to here is held, this one left out.
+    held: usize,
+}
+
+impl Dock<'_> {
+    /// Whether the cell is free from a tick for the whole dwell. Each byte of the row is looked at once, over all calls.
+    fn unloads(&mut self, tick: usize, dwell: usize) -> bool {
+        self.held = self.held.max(tick);
+        while self.held <= tick + dwell && self.row.get(self.held) == Some(&0) {
+            self.held += 1;
+        }
+        self.held > tick + dwell
+    }
+}
+
 fn count(set: &Set) -> usize {
     set.iter().map(|word| word.count_ones() as usize).sum()
 }
@@ -742,14 +770,15 @@ impl Search {
         found
     }
 
-    /// The least tick at which the goal is reached.
-    fn run(&mut self, site: &Site, board: &[u8], start: usize, tick: usize, goal: usize) -> Option<usize> {
+    /// The least tick at which the goal is reached and its cell stays free for the dwell.
+    fn run(&mut self, site: &Site, board: &[u8], start: usize, tick: usize, goal: usize, dwell: usize) -> Option<usize> {
         if site.row(board, site.cell(start))[tick] != 0 {
             return None;
         }
         self.prepare(site, board, tick);
         insert(&mut self.reached[tick + BEFORE], start);
-        if start == goal {
+        let mut dock = Dock { row: site.row(board, site.cell(goal)), held: 0 };
+        if start == goal && dock.unloads(tick, dwell) {
             return Some(tick);
         }
         let longest = site.motions.iter().map(|motion| motion.d as usize).max().unwrap_or(0);
@@ -797,7 +826,7 @@ impl Search {
                 now[group] = set;
             }
             self.reached[t + BEFORE] = now;
-            if has(&now, goal) {
+            if has(&now, goal) && dock.unloads(t, dwell) {
                 return Some(t);
             }
             for group in 0..4 {

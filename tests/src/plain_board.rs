@@ -2,7 +2,7 @@
 //! It sees the site and each call's arguments, with areas as lengths, and never the bytes of a board.
 
 use crate::desk::Answer;
-use crate::literal::{Light, Site};
+use crate::literal::{Light, Site, MAX_DWELL};
 use std::collections::BTreeSet;
 
 type Pair = (usize, usize);
@@ -33,14 +33,15 @@ impl PlainBoard {
     }
 
     /// A granted route has its light beside the answer.
-    pub fn route(&self, tug: u8, start: u16, tick: u16, goal: u16, out: usize, work: usize) -> (Answer, Vec<u8>) {
+    #[allow(clippy::too_many_arguments)]
+    pub fn route(&self, tug: u8, start: u16, tick: u16, goal: u16, dwell: u16, out: usize, work: usize) -> (Answer, Vec<u8>) {
         let site = &self.site;
         let s = site.states.len();
         let refuse = |number| (Answer::plain(number), Vec::new());
         if !(1..=199).contains(&tug) {
             return refuse(9);
         }
-        if start as usize >= s || tick as usize > site.h || goal as usize >= s {
+        if start as usize >= s || tick as usize > site.h || goal as usize >= s || dwell > MAX_DWELL {
             return refuse(10);
         }
         if !site.standing(goal as usize) {
@@ -49,13 +50,13 @@ impl PlainBoard {
         if self.stands(tug) {
             return refuse(12);
         }
-        if out < 16 + 5 * site.h || work < s * (site.h + 1) {
+        if out < site.output_len() || work < s * (site.h + 1) {
             return refuse(14);
         }
-        match site.route(&self.free(), start as usize, tick as usize, goal as usize) {
+        match site.route(&self.free(), start as usize, tick as usize, goal as usize, dwell as usize) {
             None => refuse(18),
             Some((steps, arrival)) => {
-                let bytes = Light { edition: self.n, tug, start, tick, goal, arrival: arrival as u16, steps }.encode();
+                let bytes = Light { edition: self.n, tug, start, tick, goal, arrival: arrival as u16, dwell, steps }.encode();
                 (Answer { number: 0, value: bytes.len() as u32, arrival: arrival as u32 }, bytes)
             }
         }

@@ -2,13 +2,14 @@
 //! With a fault named in the environment variable DESK_FAULT it is wrong in one way, and the tests must notice.
 
 use crate::desk::Answer;
-use crate::literal::{fields, number, put, Light, Site, Step};
+use crate::literal::{fields, number, put, with_head, Light, Site, Step, MAX_DWELL};
 use std::sync::OnceLock;
 
 /// The faults: those of document 01 under "Wrong desks", then smaller ones, then refusals of a call in the wrong order, then those of the day
-/// program with an empty script.
+/// program with an empty script, then those of the time at the dock: the search, what is checked and held, number 10, layouts and areas, the
+/// day program.
 #[rustfmt::skip]
-pub const FAULTS: [&str; 52] = [
+pub const FAULTS: [&str; 80] = [
     "earliest", "endpoints", "rolling", "swap", "no-plan", "empty-light", "first-step", "no-mark", "light-edition", "interval-end",
     "unmerged", "highest", "motion-first", "edition", "work-kept", "work-long", "tail", "refused-write", "low-byte", "unknown-free",
     "withdraw-edition", "interval-tail", "board-longer", "light-trailing", "stands-edition", "arrival",
@@ -16,6 +17,11 @@ pub const FAULTS: [&str; 52] = [
     "route-9-10", "route-10-11", "route-11-12", "route-12-14", "close-9-10", "close-10-12", "close-12-15", "close-15-17",
     "withdraw-9-13", "withdraw-13-15", "light-9-10", "light-10-11", "light-11-12", "light-12-15", "light-15-16", "light-16-17",
     "quiet-silent", "quiet-refused", "quiet-cut", "quiet-always", "quiet-unreadable",
+    "dwell-first-arrival", "dwell-ends-at-goal", "dwell-goal-unreached", "dwell-ignored-by-route",
+    "dwell-short", "dwell-long", "dwell-past-horizon", "dwell-ignored-by-light", "dwell-unmarked", "dwell-marked-short",
+    "dwell-1001", "dwell-1000", "dwell-unlimited-route", "dwell-unlimited-light", "dwell-limit-late", "dwell-horizon-10",
+    "dwell-swapped", "dwell-lost", "dwell-old-head", "dwell-old-limit", "dwell-wide-limit", "dwell-old-area", "dwell-wide-area",
+    "day-dwell-goal", "day-dwell-first", "day-dwell-swapped", "day-dwell-low-byte", "day-dwell-old-field",
 ];
 
 pub fn fault(name: &str) -> bool {
@@ -164,16 +170,39 @@ fn may_wait(site: &Site, state: usize) -> bool {
     site.standing(state) || fault("rolling")
 }
 
+/// Whether a dwell counts as too large.
+fn dwell_large(site: &Site, goal: u16, dwell: u16) -> bool {
+    let limit = MAX_DWELL + fault("dwell-1001") as u16 - fault("dwell-1000") as u16;
+    // With the fault a rolling goal comes first.
+    dwell > limit && !(fault("dwell-limit-late") && rolling(site, goal))
+}
+
+/// Whether the goal's cell is free from a tick for the whole dwell.
+fn unloads(site: &Site, board: &[u8], goal: usize, tick: usize, dwell: usize) -> bool {
+    let short = if fault("dwell-short") { 1 } else { 0 };
+    let last = (tick + dwell + fault("dwell-long") as usize).saturating_sub(short).max(tick);
+    let past = last > site.h && !fault("dwell-past-horizon");
+    !past && (tick..=last.min(site.h)).all(|at| free(site, board, site.cell(goal), at))
+}
+
 #[allow(clippy::too_many_arguments)]
-pub fn route(file: &[u8], board: &[u8], tug: u8, start: u16, tick: u16, goal: u16, out: &mut [u8], work: &mut [u32]) -> Answer {
+pub fn route(file: &[u8], board: &[u8], tug: u8, start: u16, tick: u16, goal: u16, dwell: u16, out: &mut [u8], work: &mut [u32]) -> Answer {
     let result = enter(file, board).and_then(|site| {
         let s = site.states.len();
+        let large = dwell_large(&site, goal, dwell) && !fault("dwell-unlimited-route");
+        let past = fault("dwell-horizon-10") && dwell as usize > site.h;
+        let needed = match site.output_len() {
+            len if fault("dwell-old-area") => len - 2,
+            // Right up to H 12 only.
+            len if fault("dwell-wide-area") => len + site.h / 13 * site.h,
+            len => len,
+        };
         let checks: [(u8, &dyn Fn() -> bool); 5] = [
             (9, &|| tug == 0 || tug > 199),
-            (10, &|| start as usize >= s || goal as usize >= s || tick as usize > site.h),
+            (10, &|| start as usize >= s || goal as usize >= s || tick as usize > site.h || large || past),
             (11, &|| rolling(&site, goal)),
             (12, &|| stands(board, tug)),
-            (14, &|| out.len() < 16 + 5 * site.h || work.len() < s * (site.h + 1)),
+            (14, &|| out.len() < needed || work.len() < s * (site.h + 1)),
         ];
         first("route", &checks)?;
         Ok(site)
@@ -189,7 +218,8 @@ pub fn route(file: &[u8], board: &[u8], tug: u8, start: u16, tick: u16, goal: u1
     };
     let words = site.states.len() * (site.h + 1);
     let words = if fault("work-long") { work.len() } else { words };
-    let found = if fault("no-plan") { None } else { search(&site, board, start as usize, tick as usize, goal as usize) };
+    let dock = if fault("dwell-ignored-by-route") { 0 } else { dwell as usize };
+    let found = if fault("no-plan") { None } else { search(&site, board, start as usize, tick as usize, goal as usize, dock) };
     let Some((steps, arrival)) = found else {
         if !fault("work-kept") {
             work[..words].fill(0);
@@ -199,7 +229,8 @@ pub fn route(file: &[u8], board: &[u8], tug: u8, start: u16, tick: u16, goal: u1
     work[..words].fill(0);
     let edition = edition(board).wrapping_add(fault("light-edition") as u32);
     let steps = if fault("empty-light") { Vec::new() } else { steps };
-    let light = Light { edition, tug, start, tick, goal, arrival: arrival as u16, steps }.encode();
+    let dwell = if fault("dwell-lost") { 0 } else { dwell };
+    let light = lit(Light { edition, tug, start, tick, goal, arrival: arrival as u16, dwell, steps }).encode();
     out[..light.len()].copy_from_slice(&light);
     if fault("tail") {
         out[light.len()..].fill(0);
@@ -207,8 +238,17 @@ pub fn route(file: &[u8], board: &[u8], tug: u8, start: u16, tick: u16, goal: u1
     Answer { number: 0, value: light.len() as u32, arrival: arrival as u32 + fault("arrival") as u32 }
 }
 
+/// A light as it is written, or read again.
+fn lit(mut light: Light) -> Light {
+    if fault("dwell-swapped") {
+        light.dwell = light.dwell.swap_bytes();
+    }
+    light
+}
+
 /// Forward from each reached pair, then back by the traced rule.
-fn search(site: &Site, board: &[u8], start: usize, tick: usize, goal: usize) -> Option<(Vec<Step>, usize)> {
+fn search(site: &Site, board: &[u8], start: usize, tick: usize, goal: usize, dwell: usize) -> Option<(Vec<Step>, usize)> {
+    let unloads = |at: usize| unloads(site, board, goal, at, dwell);
     let is_free = |state: usize, at: usize| free(site, board, site.cell(state), at);
     let mut reached = vec![vec![false; site.states.len()]; site.h + 1];
     if !is_free(start, tick) {
@@ -225,10 +265,14 @@ fn search(site: &Site, board: &[u8], start: usize, tick: usize, goal: usize) -> 
                 }
             }
         }
-        if reached[t][goal] {
+        if reached[t][goal] && (unloads(t) || fault("dwell-first-arrival")) {
             break;
         }
-        for s in (0..site.states.len()).filter(|&s| reached[t][s]).collect::<Vec<_>>() {
+        if fault("dwell-goal-unreached") && (goal, t) != (start, tick) {
+            reached[t][goal] = false;
+        }
+        let goal_ends = |s: usize| s == goal && fault("dwell-ends-at-goal");
+        for s in (0..site.states.len()).filter(|&s| reached[t][s] && !goal_ends(s)).collect::<Vec<_>>() {
             if may_wait(site, s) && t < site.h && is_free(s, t + 1) {
                 reached[t + 1][s] = true;
             }
@@ -239,7 +283,10 @@ fn search(site: &Site, board: &[u8], start: usize, tick: usize, goal: usize) -> 
             }
         }
     }
-    let arrival = (tick..=site.h).find(|&t| reached[t][goal])?;
+    let arrival = (tick..=site.h).find(|&t| reached[t][goal] && (unloads(t) || fault("dwell-first-arrival")))?;
+    if !unloads(arrival) {
+        return None;
+    }
     let mut steps = Vec::new();
     let (mut s, mut t) = (goal, arrival);
     while (s, t) != (start, tick) {
@@ -274,15 +321,26 @@ fn search(site: &Site, board: &[u8], start: usize, tick: usize, goal: usize) -> 
 fn check(file: &[u8], board: &[u8], bytes: &[u8]) -> Result<(Site, Light, Vec<(usize, usize)>), u8> {
     let site = enter(file, board)?;
     let mut read = Light::read(bytes);
-    if fault("light-trailing") && read.is_none() && bytes.len() > 16 {
-        let whole = 16 + (bytes.len() - 16) / 5 * 5;
-        read = Light::read(&bytes[..whole]);
+    if fault("light-trailing") && read.is_none() {
+        read = (1..5).filter(|n| *n < bytes.len()).find_map(|n| Light::read(&bytes[..bytes.len() - n]));
     }
-    let light = read.ok_or(8)?;
-    let pairs = if light.too_large(&site) { None } else { held(&site, board, &light) };
+    if fault("dwell-old-head") && bytes.starts_with(&[16, 0, 13]) {
+        read = with_head(bytes, 15).and_then(|bytes| Light::read(&bytes));
+    }
+    if fault("dwell-old-limit") && bytes.len() > 5_016 {
+        read = None;
+    }
+    if fault("dwell-wide-limit") && bytes.len() == 5_023 {
+        read = Light::read(&bytes[..5_018]);
+    }
+    let light = lit(read.ok_or(8)?);
+    let large = dwell_large(&site, light.goal, light.dwell) && !fault("dwell-unlimited-light");
+    let unknown = Light { dwell: 0, ..light.clone() }.too_large(&site);
+    let past = fault("dwell-horizon-10") && light.arrival as usize + light.dwell as usize > site.h;
+    let pairs = if unknown { None } else { held(&site, board, &light) };
     let checks: [(u8, &dyn Fn() -> bool); 7] = [
         (9, &|| light.tug == 0 || light.tug > 199),
-        (10, &|| light.too_large(&site)),
+        (10, &|| unknown || large || past),
         (11, &|| rolling(&site, light.goal)),
         (12, &|| stands(board, light.tug)),
         (15, &|| edition(board) == u32::MAX),
@@ -327,6 +385,14 @@ fn held(site: &Site, board: &[u8], light: &Light) -> Option<Vec<(usize, usize)>>
             pairs.extend(more);
         }
         first = false;
+    }
+    let dwell = light.dwell as usize;
+    if !fault("dwell-ignored-by-light") && !unloads(site, board, s, t, dwell) {
+        return None;
+    }
+    let last = if fault("dwell-marked-short") { (t + dwell).saturating_sub(1) } else { t + dwell };
+    if !fault("dwell-unmarked") && !fault("first-step") {
+        pairs.extend((t..=last.min(site.h)).map(|at| (site.cell(s), at)));
     }
     (s == light.goal as usize && t == light.arrival as usize).then_some(pairs)
 }

@@ -4,7 +4,7 @@
 
 use dispatch_tests::desk::{self, Answer};
 use dispatch_tests::gen::{self, Call, Caller, Rng, Size, CALLS};
-use dispatch_tests::literal::{encode, Site};
+use dispatch_tests::literal::{encode, with_head, Light, Site, Step, MAX_DWELL};
 use dispatch_tests::plain;
 use dispatch_tests::plain_board::PlainBoard;
 use std::collections::BTreeMap;
@@ -13,6 +13,9 @@ use std::time::Instant;
 
 /// Bytes and numbers around each area that no call may touch.
 const GUARD: usize = 32;
+
+/// How often each thing that is counted must occur in a run that is long enough.
+const OFTEN: usize = 20;
 
 /// What is lent to a call: the site file, the board, the light and the areas, each with a guard on both sides.
 #[derive(Clone, PartialEq)]
@@ -69,8 +72,8 @@ macro_rules! run {
         match *$call {
             Call::Open => $program::open(inner(&lent.site), inner_mut(&mut lent.board)),
             Call::Interval { cell, .. } => $program::interval(inner(&lent.site), inner(&lent.board), cell, inner_mut(&mut lent.numbers)),
-            Call::Route { tug, start, tick, goal, .. } => {
-                $program::route(inner(&lent.site), inner(&lent.board), tug, start, tick, goal, inner_mut(&mut lent.bytes), inner_mut(&mut lent.words))
+            Call::Route { tug, start, tick, goal, dwell, .. } => {
+                $program::route(inner(&lent.site), inner(&lent.board), tug, start, tick, goal, dwell, inner_mut(&mut lent.bytes), inner_mut(&mut lent.words))
             }
             Call::Audit { .. } => $program::audit(inner(&lent.site), inner(&lent.board), inner(&lent.light)),
             Call::Post { .. } => $program::post(inner(&lent.site), inner_mut(&mut lent.board), inner(&lent.light)),
@@ -84,6 +87,100 @@ struct Tally {
     seed: u64,
     calls: usize,
     pairs: BTreeMap<(usize, u8), usize>,
+    docks: BTreeMap<Dock, usize>,
+}
+
+/// What can happen with the time at the dock. Each must occur often, or the run shows too little of it.
+#[derive(Clone, Copy, PartialEq, Eq, PartialOrd, Ord, Debug)]
+enum Dock {
+    RouteGranted,
+    /// Its high byte is not 0.
+    RouteGrantedLong,
+    /// The tug could be at its goal earlier, but not unload then.
+    RouteLater,
+    /// The plan leaves its goal and comes back.
+    RouteReturns,
+    /// The last tick at the dock is H.
+    RouteUntilHorizon,
+    /// Without the dwell the route is granted, and the dwell fits between arrival and H.
+    RouteNone,
+    /// Without the dwell the route is granted, and the dwell runs past H.
+    RoutePastHorizon,
+    /// The dwell is the limit itself, and the route is granted without it.
+    RouteLimit,
+    /// Only the dwell is too large.
+    RouteTooLarge,
+    /// The dwell is too large, and 11, 12 or 14 applies too.
+    RouteTooLargeFirst,
+    LightAccepted,
+    LightAcceptedLong,
+    /// With a dwell one tick shorter the light is accepted, and the dwell ends at H or before.
+    LightHeld,
+    /// With a dwell one tick shorter the light is accepted, and the dwell runs past H.
+    LightPastHorizon,
+    /// The dwell is the limit itself, and the light would be accepted without it.
+    LightLimit,
+    /// Only the dwell is too large.
+    LightTooLarge,
+    /// A light with the head of 13 bytes, which is right but for that.
+    LightOldHead,
+}
+
+#[rustfmt::skip]
+const DOCKS: [Dock; 17] = {
+    use Dock::*;
+    [
+        RouteGranted, RouteGrantedLong, RouteLater, RouteReturns, RouteUntilHorizon, RouteNone, RoutePastHorizon, RouteLimit, RouteTooLarge,
+        RouteTooLargeFirst, LightAccepted, LightAcceptedLong, LightHeld, LightPastHorizon, LightLimit, LightTooLarge, LightOldHead,
+    ]
+};
+
+/// What a call shows of the time at the dock: its answer beside the plain program's for other dwells. A refused site file shows nothing.
+fn docks(call: &Call, answer: &Answer, before: &Lent, left: &Lent) -> Vec<Dock> {
+    let (file, board) = (inner(&before.site), inner(&before.board));
+    let seen = match call {
+        &Call::Route { tug, start, tick, goal, dwell, out, work } if dwell > 0 => {
+            let Ok(site) = Site::read(file) else { return vec![] };
+            let none = plain::route(file, board, tug, start, tick, goal, 0, &mut vec![0; out], &mut vec![0; work]);
+            let until = |arrival: u32| arrival as usize + dwell as usize;
+            let (granted, lost) = (answer.number == 0, answer.number == 18 && none.number == 0);
+            let steps = || Light::read(&inner(&left.bytes)[..answer.value as usize]).unwrap().steps;
+            let returns = || steps().iter().any(|step| matches!(step, Step::Move(k) if site.motions[*k as usize].from == goal));
+            vec![
+                (Dock::RouteGranted, granted),
+                (Dock::RouteGrantedLong, granted && dwell > 255),
+                (Dock::RouteLater, granted && answer.arrival > none.arrival),
+                (Dock::RouteReturns, granted && returns()),
+                (Dock::RouteUntilHorizon, granted && until(answer.arrival) == site.h),
+                (Dock::RouteNone, lost && until(none.arrival) <= site.h),
+                (Dock::RoutePastHorizon, lost && until(none.arrival) > site.h),
+                (Dock::RouteLimit, lost && dwell == MAX_DWELL),
+                (Dock::RouteTooLarge, answer.number == 10 && none.number == 0),
+                (Dock::RouteTooLargeFirst, answer.number == 10 && (11..=14).contains(&none.number)),
+            ]
+        }
+        Call::Audit { light: bytes } | Call::Post { light: bytes } => match (Light::read(bytes), plain::Site::read(file)) {
+            (Some(light), Ok(site)) if light.dwell > 0 => {
+                let number = |dwell| plain::audit(file, board, &Light { dwell, ..light.clone() }.encode()).number;
+                let past = light.arrival as usize + light.dwell as usize > site.h;
+                vec![
+                    (Dock::LightAccepted, answer.number == 0),
+                    (Dock::LightAcceptedLong, answer.number == 0 && light.dwell > 255),
+                    (Dock::LightHeld, answer.number == 17 && !past && number(light.dwell - 1) == 0),
+                    (Dock::LightPastHorizon, answer.number == 17 && past && number(light.dwell - 1) == 0),
+                    (Dock::LightLimit, answer.number == 17 && light.dwell == MAX_DWELL && number(0) == 0),
+                    (Dock::LightTooLarge, answer.number == 10 && number(0) == 0),
+                ]
+            }
+            (None, Ok(_)) if bytes.starts_with(&[16, 0, 13]) && answer.number == 8 => {
+                let number = with_head(bytes, 15).map(|light| plain::audit(file, board, &light).number);
+                vec![(Dock::LightOldHead, number == Some(0))]
+            }
+            _ => vec![],
+        },
+        _ => vec![],
+    };
+    seen.into_iter().filter(|dock| dock.1).map(|dock| dock.0).collect()
 }
 
 impl Tally {
@@ -111,6 +208,9 @@ impl Tally {
         assert!(left.words == wanted.words, "{}\nthe working words differ", place());
         self.calls += 1;
         *self.pairs.entry((call.kind(), answer.number)).or_default() += 1;
+        for dock in docks(call, &answer, &before, &left) {
+            *self.docks.entry(dock).or_default() += 1;
+        }
         (answer, left)
     }
 
@@ -190,8 +290,8 @@ impl Tally {
             let (answer, left) = self.compare(rng, &file, &board, &call);
             board = inner(&left.board).to_vec();
             let wanted = match call {
-                Call::Route { tug, start, tick, goal, out, work } => {
-                    let (wanted, light) = model.route(tug, start, tick, goal, out, work);
+                Call::Route { tug, start, tick, goal, dwell, out, work } => {
+                    let (wanted, light) = model.route(tug, start, tick, goal, dwell, out, work);
                     if wanted.number == 0 {
                         assert_eq!(inner(&left.bytes)[..light.len()], light, "seed {}, call {}: the light of the plain board", self.seed, self.calls);
                         caller.lights.push(light);
@@ -210,7 +310,7 @@ impl Tally {
     }
 }
 
-/// Every number that a call can return, by document 01.
+/// Every number that a call can return, by document 01 and by document 02 as far as it has landed.
 fn possible() -> Vec<(usize, u8)> {
     let own: [&[u8]; 7] =
         [&[], &[10, 14], &[9, 10, 11, 12, 14, 18], &[8, 9, 10, 11, 12, 15, 16, 17], &[8, 9, 10, 11, 12, 15, 16, 17], &[9, 10, 12, 15, 17], &[9, 13, 15]];
@@ -229,14 +329,15 @@ fn desk_and_plain_program_agree() {
     writeln!(log, "agree: seed {seed}, {calls} calls").unwrap();
     let began = Instant::now();
     let mut rng = Rng::new(seed);
-    let mut tally = Tally { seed, calls: 0, pairs: BTreeMap::new() };
+    let mut tally = Tally { seed, calls: 0, pairs: BTreeMap::new(), docks: BTreeMap::new() };
     let mut round = 0;
     while tally.calls < calls {
         round += 1;
         let size = match rng.below(100) {
-            0..=19 => Size::Tiny,
-            20..=59 => Size::Row,
-            60..=93 => Size::Small,
+            0..=17 => Size::Tiny,
+            18..=57 => Size::Row,
+            58..=80 => Size::Small,
+            81..=93 => Size::Long,
             _ => Size::Middle,
         };
         match round % 8 {
@@ -257,14 +358,20 @@ fn desk_and_plain_program_agree() {
         let counts: Vec<String> = tally.pairs.iter().filter(|(pair, _)| pair.0 == kind).map(|(pair, n)| format!("{}:{n}", pair.1)).collect();
         writeln!(log, "agree: {name:8} {}", counts.join(" ")).unwrap();
     }
+    let counts: Vec<String> = tally.docks.iter().map(|(dock, n)| format!("{dock:?}:{n}")).collect();
+    writeln!(log, "agree: dwell    {}", counts.join(" ")).unwrap();
     for pair in tally.pairs.keys() {
-        assert!(possible().contains(pair), "{} answers {}, which document 01 does not give it", CALLS[pair.0], pair.1);
+        assert!(possible().contains(pair), "{} answers {}, which the documents do not give it", CALLS[pair.0], pair.1);
     }
     // A short run may miss the rarest numbers.
     if calls >= 100_000 {
         for pair in possible() {
             let times = tally.pairs.get(&pair).copied().unwrap_or(0);
-            assert!(times >= 20, "{} answers {} only {times} times, so the run shows too little", CALLS[pair.0], pair.1);
+            assert!(times >= OFTEN, "{} answers {} only {times} times, so the run shows too little", CALLS[pair.0], pair.1);
+        }
+        for dock in DOCKS {
+            let times = tally.docks.get(&dock).copied().unwrap_or(0);
+            assert!(times >= OFTEN, "{dock:?} occurs only {times} times, so the run shows too little");
         }
     }
 }

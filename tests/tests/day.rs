@@ -1,8 +1,8 @@
-//! The day program as an executable against an independent reading of document 01 and of request 1 of document 02.
+//! The day program as an executable against an independent reading of document 01 and of requests 1 and 2 of document 02.
 
 use dispatch_tests::gen::{self, Rng, Size};
 use dispatch_tests::literal::{encode, put};
-use dispatch_tests::{day, four};
+use dispatch_tests::{c, day, four};
 use std::fs;
 use std::io::Write;
 use std::path::{Path, PathBuf};
@@ -14,6 +14,21 @@ fn program() -> PathBuf {
     return PathBuf::from(env!("CARGO_BIN_EXE_day-standin"));
     #[cfg(not(feature = "standin"))]
     return Path::new(env!("CARGO_MANIFEST_DIR")).join("../target/bin/day");
+}
+
+/// The script with every dwell 0, as far as its fields are whole.
+fn without_dwells(script: &[u8]) -> Vec<u8> {
+    let mut changed = script.to_vec();
+    let mut at = 0;
+    while at + 3 <= script.len() {
+        let length = u16::from_be_bytes([script[at + 1], script[at + 2]]) as usize;
+        let end = at + 3 + length;
+        if script[at] == 34 && length == 9 && end <= script.len() {
+            changed[end - 2..end].fill(0);
+        }
+        at = end;
+    }
+    changed
 }
 
 /// A folder of its own for each test, as they run at the same time.
@@ -72,7 +87,7 @@ fn agree(folder: &Path, site: Option<&[u8]>, script: &[u8], what: &str) {
 fn worked_script() -> Vec<u8> {
     let mut script = Vec::new();
     put(&mut script, 32, &[200, 3, 0, 0, 0, 8]);
-    put(&mut script, 34, &[7, 0, 0, 0, 0, 0, 4]);
+    put(&mut script, 34, &[7, 0, 0, 0, 0, 0, 4, 0, 0]);
     put(&mut script, 35, &[]);
     script
 }
@@ -82,6 +97,8 @@ fn worked_example() {
     let folder = folder("worked");
     fs::write(folder.join("site.bin"), four::bytes()).unwrap();
     assert_eq!(output(&folder, &worked_script()), "0 1 0\n0 1 10\n0 2 0\n");
+    // The repository's own script is this one.
+    assert_eq!(fs::read(c::root().join("crates/day/stdin")).unwrap(), worked_script());
 }
 
 /// Request 1, by its text: what is printed is written out here, and not taken from `src/day.rs`.
@@ -103,6 +120,54 @@ fn quiet_shift() {
     assert_eq!(output(&folder, &[]), "2 0 0\n", "a cut site.bin");
     fs::remove_file(&site_bin).unwrap();
     assert_eq!(output(&folder, &[]), "3 0 0\n", "no site.bin");
+}
+
+/// Request 2, by its text: what is printed is written out here.
+#[test]
+fn time_at_the_dock() {
+    let folder = folder("dock");
+    fs::write(folder.join("site.bin"), four::bytes()).unwrap();
+    let run = |values: &[&[u8]]| {
+        let mut script = Vec::new();
+        for value in values {
+            put(&mut script, 34, value);
+        }
+        output(&folder, &script)
+    };
+    // From state 0 at tick 0 to state 4, where the horizon leaves seven ticks. The last two bytes are the dwell.
+    let route = |high: u8, low: u8| [7, 0, 0, 0, 0, 0, 4, high, low];
+    assert_eq!(run(&[&route(0, 0), &route(0, 1), &route(0, 7)]), "0 0 5\n0 0 5\n0 0 5\n", "dwells that fit");
+    assert_eq!(run(&[&route(0, 8)]), "18 0 0\n", "one tick too long");
+    assert_eq!(run(&[&route(1, 0)]), "18 0 0\n", "dwell 256, high byte first");
+    assert_eq!(run(&[&route(3, 232)]), "18 0 0\n", "dwell 1,000");
+    assert_eq!(run(&[&route(3, 233)]), "10 0 0\n", "dwell 1,001");
+    assert_eq!(run(&[&route(4, 0), &route(255, 255)]), "10 0 0\n10 0 0\n", "dwells 1,024 and 65,535");
+    // Start, tick and goal stand before the dwell: state 1 from tick 3, with the dwells 3 and 7.
+    assert_eq!(run(&[&[7, 0, 1, 0, 3, 0, 4, 0, 3], &[7, 0, 1, 0, 3, 0, 4, 0, 7]]), "0 0 6\n18 0 0\n", "from a rolling state");
+    assert_eq!(run(&[&[7, 0, 0, 0, 0, 0, 2, 0, 8], &[7, 0, 0, 0, 0, 0, 2, 0, 9]]), "0 0 4\n18 0 0\n", "to state 2");
+    // The field as it was before, and other lengths.
+    let long = [7, 0, 0, 0, 0, 0, 4, 0, 0, 0];
+    for len in [6, 7, 8, 10] {
+        assert_eq!(run(&[&long[..len], &long[..9]]), "99 0 0\n", "a route field of {len} bytes");
+    }
+    // A posted light holds its dock: cell 3 at 4 to 7.
+    let mut script = Vec::new();
+    put(&mut script, 34, &route(0, 2));
+    put(&mut script, 35, &[]);
+    put(&mut script, 32, &[200, 3, 0, 7, 0, 7]);
+    put(&mut script, 32, &[200, 3, 0, 8, 0, 8]);
+    assert_eq!(output(&folder, &script), "0 0 5\n0 1 0\n17 1 0\n0 2 0\n", "a posted dwell");
+    // Case B: two ticks are left behind its arrival.
+    for (dwell, lines) in [(2, "0 1 0\n0 1 10\n0 2 0\n"), (3, "0 1 0\n18 1 0\n8 1 0\n")] {
+        let mut script = worked_script();
+        script[20] = dwell;
+        assert_eq!(output(&folder, &script), lines, "case B with dwell {dwell}");
+    }
+    // Dwells above 255, on a hall with ticks enough for them: 256 and 1 differ.
+    let mut hall = four::site();
+    hall.h = 300;
+    fs::write(folder.join("site.bin"), encode(&hall)).unwrap();
+    assert_eq!(run(&[&route(1, 39), &route(1, 40), &route(0, 1)]), "0 0 5\n18 0 0\n0 0 5\n", "dwells 295, 296 and 1 of H 300");
 }
 
 /// A script that comes slowly is waited for: it is neither empty nor cut.
@@ -212,6 +277,7 @@ fn random_scripts() {
     writeln!(std::io::stderr(), "day: seed {seed}, {runs} scripts").unwrap();
     let folder = folder("random");
     let mut rng = Rng::new(seed);
+    let mut dwells = 0;
     for run in 0..runs {
         let size = rng.pick(&[Size::Tiny, Size::Row, Size::Row, Size::Small, Size::Small, Size::Middle]);
         let site = if rng.percent(20) { four::site() } else { gen::site(&mut rng, size) };
@@ -222,7 +288,10 @@ fn random_scripts() {
             file = gen::damaged(&mut rng, &site, &[fault]);
         }
         agree(&folder, Some(&file), &script, &format!("seed {seed}, script {run}"));
+        dwells += usize::from(day::transcript(Some(&file), &script) != day::transcript(Some(&file), &without_dwells(&script)));
     }
+    // A short run may have few of them.
+    assert!(runs < 300 || dwells * 20 >= runs, "only {dwells} of {runs} scripts print something else without their dwells");
 }
 
 #[test]
@@ -235,7 +304,7 @@ fn script_longer_than_any_area() {
         match rng.below(4) {
             0 => put(&mut script, 32, &[rng.range(200, 203) as u8, rng.below(4) as u8, 0, 3, 0, rng.range(3, 12) as u8]),
             1 => put(&mut script, 33, &[rng.pick(&[7, 8, 200, 201, 202, 203])]),
-            2 => put(&mut script, 34, &[rng.pick(&[7, 8]), 0, 0, 0, 0, 0, rng.pick(&[2, 4])]),
+            2 => put(&mut script, 34, &[rng.pick(&[7, 8]), 0, 0, 0, 0, 0, rng.pick(&[2, 4]), 0, rng.pick(&[0, 0, 1, 3])]),
             _ => put(&mut script, 35, &[]),
         }
     }

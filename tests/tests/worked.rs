@@ -1,7 +1,8 @@
-//! The worked cases A to O of 'Four in line', with the desk's calls, and the same ones with the plain program's.
+//! The worked cases A to O of 'Four in line', and those of document 02's requests, with the desk's calls; routes also with the plain program's.
+//! The cases of document 01 have dwell 0.
 
 use dispatch_tests::desk::{self, Answer};
-use dispatch_tests::literal::{encode, Light, Step, Sweep};
+use dispatch_tests::literal::{encode, with_head, Light, Motion, Site, State, Step, Sweep};
 use dispatch_tests::{four, plain};
 
 const W: fn(u16) -> Step = Step::Wait;
@@ -21,12 +22,13 @@ fn board(closures: &[(u16, u16, u16)]) -> Vec<u8> {
 }
 
 /// The route's answer and light, the desk's and the plain program's compared, with the areas around it.
-fn route(board: &[u8], start: u16, tick: u16, goal: u16) -> (Answer, Vec<u8>) {
-    let site = four::bytes();
-    let (out, work) = (vec![0xa5; 16 + 5 * 12 + 3], vec![7; 5 * 13 + 2]);
-    let run = |call: fn(&[u8], &[u8], u8, u16, u16, u16, &mut [u8], &mut [u32]) -> Answer| {
+fn route_on(site: &Site, board: &[u8], start: u16, tick: u16, goal: u16, dwell: u16) -> (Answer, Vec<u8>) {
+    let file = encode(site);
+    let words = site.states.len() * (site.h + 1);
+    let (out, work) = (vec![0xa5; 18 + 5 * site.h + 3], vec![7; words + 2]);
+    let run = |call: fn(&[u8], &[u8], u8, u16, u16, u16, u16, &mut [u8], &mut [u32]) -> Answer| {
         let (mut out, mut work) = (out.clone(), work.clone());
-        let answer = call(&site, board, 7, start, tick, goal, &mut out, &mut work);
+        let answer = call(&file, board, 7, start, tick, goal, dwell, &mut out, &mut work);
         (answer, out, work)
     };
     let got = run(desk::route);
@@ -34,23 +36,37 @@ fn route(board: &[u8], start: u16, tick: u16, goal: u16) -> (Answer, Vec<u8>) {
     let (answer, out, work) = got;
     let len = answer.value as usize;
     assert!(out[len..].iter().all(|&byte| byte == 0xa5));
-    let zeroed = if answer.number == 0 || answer.number == 18 { 5 * 13 } else { 0 };
+    let zeroed = if answer.number == 0 || answer.number == 18 { words } else { 0 };
     assert!(work[..zeroed].iter().all(|&word| word == 0) && work[zeroed..].iter().all(|&word| word == 7));
     (answer, out[..len].to_vec())
 }
 
-fn granted(board: &[u8], start: u16, tick: u16, steps: &[Step], arrival: u16) -> Vec<u8> {
-    let (answer, light) = route(board, start, tick, 4);
+fn route(board: &[u8], start: u16, tick: u16, goal: u16, dwell: u16) -> (Answer, Vec<u8>) {
+    route_on(&four::site(), board, start, tick, goal, dwell)
+}
+
+/// The light of a granted route to state 4, which has these steps and passes the audit.
+fn unloaded(board: &[u8], start: u16, tick: u16, dwell: u16, steps: &[Step], arrival: u16) -> Vec<u8> {
+    let (answer, light) = route(board, start, tick, 4, dwell);
     let edition = u32::from_be_bytes(board[..4].try_into().unwrap());
-    let wanted = Light { edition, tug: 7, start, tick, goal: 4, arrival, steps: steps.to_vec() };
+    let wanted = Light { edition, tug: 7, start, tick, goal: 4, arrival, dwell, steps: steps.to_vec() };
     assert_eq!(Light::read(&light), Some(wanted));
     assert_eq!(answer, Answer { number: 0, value: light.len() as u32, arrival: arrival as u32 });
     assert_eq!(desk::audit(&four::bytes(), board, &light), Answer::plain(0));
     light
 }
 
+fn granted(board: &[u8], start: u16, tick: u16, steps: &[Step], arrival: u16) -> Vec<u8> {
+    unloaded(board, start, tick, 0, steps, arrival)
+}
+
+/// A route to a state that is refused with a number.
+fn turned_down(board: &[u8], start: u16, tick: u16, goal: u16, dwell: u16, number: u8) {
+    assert_eq!(route(board, start, tick, goal, dwell), (Answer::plain(number), vec![]));
+}
+
 fn refused(board: &[u8], start: u16, tick: u16, number: u8) {
-    assert_eq!(route(board, start, tick, 4), (Answer::plain(number), vec![]));
+    turned_down(board, start, tick, 4, 0, number);
 }
 
 #[test]
@@ -81,8 +97,8 @@ fn d_wait_on_the_way() {
 
 #[test]
 fn e_arrival_at_the_horizon() {
-    assert_eq!(route(&board(&[(3, 0, 10)]), 0, 0, 4).0.arrival, 12);
-    assert_eq!(route(&board(&[(3, 0, 10)]), 0, 0, 4).0.number, 0);
+    assert_eq!(route(&board(&[(3, 0, 10)]), 0, 0, 4, 0).0.arrival, 12);
+    assert_eq!(route(&board(&[(3, 0, 10)]), 0, 0, 4, 0).0.number, 0);
 }
 
 #[test]
@@ -170,5 +186,175 @@ fn o_no_handover() {
     assert_eq!(desk::open(&file, &mut board), Answer::plain(6));
     assert_eq!(plain::open(&file, &mut board), Answer::plain(6));
     let (mut out, mut work) = (vec![0; 100], vec![0; 100]);
-    assert_eq!(desk::route(&file, &board, 7, 0, 0, 4, &mut out, &mut work), Answer::plain(6));
+    assert_eq!(desk::route(&file, &board, 7, 0, 0, 4, 0, &mut out, &mut work), Answer::plain(6));
+}
+
+/// A's light with dwell 2, byte by byte.
+const A_LIGHT_DWELL_2: &str = "10 000F 00000000 07 0000 0000 0004 0005 0002, 12 0002 0000, 12 0002 0001, 12 0002 0002";
+
+const A_STEPS: [Step; 3] = [Step::Move(0), Step::Move(1), Step::Move(2)];
+
+#[test]
+fn dwell_until_the_horizon() {
+    let b = board(&[(3, 0, 8)]);
+    unloaded(&b, 0, 0, 2, &[W(5), M(0), M(1), M(2)], 10);
+    turned_down(&b, 0, 0, 4, 3, 18);
+    unloaded(&board(&[]), 0, 0, 7, &A_STEPS, 5);
+    turned_down(&board(&[]), 0, 0, 4, 8, 18);
+}
+
+/// Cell 3 is closed at 7, so a long dwell needs a later arrival.
+#[test]
+fn dwell_before_or_after_a_closure() {
+    let board = board(&[(3, 7, 7)]);
+    unloaded(&board, 0, 0, 1, &A_STEPS, 5);
+    unloaded(&board, 0, 0, 2, &[W(4), M(0), M(1), M(2)], 9);
+    unloaded(&board, 0, 0, 3, &[W(4), M(0), M(1), M(2)], 9);
+    turned_down(&board, 0, 0, 4, 4, 18);
+}
+
+#[test]
+fn dwell_without_steps() {
+    let board = board(&[]);
+    unloaded(&board, 4, 3, 9, &[], 3);
+    turned_down(&board, 4, 3, 4, 10, 18);
+    unloaded(&board, 4, 12, 0, &[], 12);
+    turned_down(&board, 4, 12, 4, 1, 18);
+}
+
+#[test]
+fn dwell_above_the_limit() {
+    let board = board(&[]);
+    turned_down(&board, 0, 0, 4, 1_000, 18);
+    turned_down(&board, 0, 0, 4, 1_001, 10);
+    turned_down(&board, 0, 0, 4, 65_535, 10);
+    // States 1 and 3 are rolling: 10 comes first.
+    turned_down(&board, 0, 0, 3, 1_000, 11);
+    turned_down(&board, 0, 0, 3, 1_001, 10);
+}
+
+/// One cell and H 1,000: the longest dwell there is, and its high byte.
+#[test]
+fn longest_dwell() {
+    let site = Site { h: 1_000, c: 1, states: vec![State { cell: 0, speed: 0 }], motions: vec![] };
+    let file = encode(&site);
+    let mut board = vec![0; 4 + 1_001];
+    let (answer, light) = route_on(&site, &board, 0, 0, 0, 1_000);
+    assert_eq!(answer, Answer { number: 0, value: 18, arrival: 0 });
+    assert_eq!(light, four::hex("10 000F 00000000 07 0000 0000 0000 0000 03E8"));
+    assert_eq!(route_on(&site, &board, 0, 1, 0, 1_000).0, Answer::plain(18));
+    assert_eq!(route_on(&site, &board, 0, 1, 0, 999).0, Answer { number: 0, value: 18, arrival: 1 });
+    assert_eq!(desk::post(&file, &mut board, &light), Answer::plain(0));
+    assert!(board[4..].iter().all(|&byte| byte == 7));
+}
+
+#[test]
+fn posted_dwell_is_held() {
+    let site = four::bytes();
+    let mut board = board(&[]);
+    let light = unloaded(&board, 0, 0, 2, &A_STEPS, 5);
+    assert_eq!(light, four::hex(A_LIGHT_DWELL_2));
+    assert_eq!(desk::post(&site, &mut board, &light), Answer::plain(0));
+    assert_eq!(board[4 + 13 * 3..], [0, 0, 0, 0, 7, 7, 7, 7, 0, 0, 0, 0, 0]);
+    assert_eq!(desk::close(&site, &mut board, 200, 3, 7, 7), Answer::plain(17));
+    assert_eq!(desk::close(&site, &mut board, 200, 3, 8, 8), Answer::plain(0));
+}
+
+/// Audit and post read the dwell in the light, whatever the route was asked for.
+#[test]
+fn dwell_of_a_light() {
+    let site = four::bytes();
+    let before = board(&[]);
+    let light = four::hex(A_LIGHT_DWELL_2);
+    for (dwell, number) in [(0, 0), (2, 0), (7, 0), (8, 17), (256, 17), (1_000, 17), (1_001, 10), (65_535, 10)] {
+        let changed = Light { dwell, ..Light::read(&light).unwrap() }.encode();
+        assert_eq!(desk::audit(&site, &before, &changed), Answer::plain(number), "audit with dwell {dwell}");
+        let mut board = before.clone();
+        assert_eq!(desk::post(&site, &mut board, &changed), Answer::plain(number), "post with dwell {dwell}");
+        assert_eq!(board == before, number != 0);
+    }
+    // Cell 3 closed at 8: the light may stay until 7.
+    let closed = board(&[(3, 8, 8)]);
+    for (dwell, number) in [(2, 0), (3, 17)] {
+        let changed = Light { dwell, edition: 1, ..Light::read(&light).unwrap() }.encode();
+        assert_eq!(desk::audit(&site, &closed, &changed), Answer::plain(number), "audit with dwell {dwell} before a closure");
+    }
+    let old_head = four::hex("10 000D 00000000 07 0000 0000 0004 0005, 12 0002 0000, 12 0002 0001, 12 0002 0002");
+    assert_eq!(desk::audit(&site, &before, &old_head), Answer::plain(8));
+    for len in [14, 16] {
+        assert_eq!(desk::audit(&site, &before, &with_head(&light, len).unwrap()), Answer::plain(8), "a head of {len} bytes");
+    }
+}
+
+#[test]
+fn output_area_of_a_route() {
+    let (site, board) = (four::bytes(), board(&[]));
+    for (len, wanted) in [(77, Answer::plain(14)), (78, Answer { number: 0, value: 33, arrival: 5 })] {
+        let (mut out, mut work) = (vec![0xa5; len], vec![7; 65]);
+        assert_eq!(desk::route(&site, &board, 7, 0, 0, 4, 2, &mut out, &mut work), wanted, "an output area of {len} bytes");
+    }
+}
+
+fn motion(from: u16, to: u16, sweeps: [(u8, u8, u8); 2]) -> Motion {
+    Motion { from, to, d: 1, sweeps: sweeps.map(|(cell, a, b)| Sweep { cell, a, b }).to_vec() }
+}
+
+/// Two cells with a standing state each, and a motion of span 1 either way: M0 from cell 0 to cell 1, M1 back.
+fn to_and_fro(h: usize) -> Site {
+    let states = vec![State { cell: 0, speed: 0 }, State { cell: 1, speed: 0 }];
+    Site { h, c: 2, states, motions: vec![motion(0, 1, [(0, 0, 1), (1, 1, 1)]), motion(1, 0, [(1, 0, 1), (0, 1, 1)])] }
+}
+
+/// The tug stands at its goal, cell 1, which is closed at 2: to unload for two ticks it leaves and comes back, 3 to 5.
+#[test]
+fn goal_left_and_reached_again() {
+    let site = to_and_fro(6);
+    let file = encode(&site);
+    let mut board = vec![0; 4 + 2 * 7];
+    assert_eq!(desk::close(&file, &mut board, 200, 1, 2, 2), Answer::plain(0));
+    let (answer, light) = route_on(&site, &board, 1, 0, 1, 2);
+    assert_eq!(answer, Answer { number: 0, value: 33, arrival: 3 });
+    assert_eq!(light, four::hex("10 000F 00000001 07 0001 0000 0001 0003 0002, 12 0002 0001, 11 0002 0001, 12 0002 0000"));
+    // Dwell 1 fits before the closure, dwell 3 just before the horizon, dwell 4 not.
+    assert_eq!(route_on(&site, &board, 1, 0, 1, 1).0, Answer { number: 0, value: 18, arrival: 0 });
+    assert_eq!(route_on(&site, &board, 1, 0, 1, 3).0, Answer { number: 0, value: 33, arrival: 3 });
+    assert_eq!(route_on(&site, &board, 1, 0, 1, 4).0, Answer::plain(18));
+    assert_eq!(desk::post(&file, &mut board, &light), Answer::plain(0));
+    assert_eq!(board[4..], [0, 7, 7, 7, 0, 0, 0, 7, 7, 200, 7, 7, 7, 0]);
+}
+
+/// A tug that must leave cell 0 for its goal, cell 1, comes there too early: it waits, goes on to cell 2 and comes back when cell 1 is no longer
+/// closed, at 5. Cell 2 is closed at 2, so that it can't go on at once.
+#[test]
+fn goal_passed_on_the_way() {
+    let mut site = to_and_fro(8);
+    site.c = 3;
+    site.states.push(State { cell: 2, speed: 0 });
+    site.motions = vec![motion(0, 1, [(0, 0, 1), (1, 1, 1)]), motion(1, 2, [(1, 0, 1), (2, 1, 1)]), motion(2, 1, [(2, 0, 1), (1, 1, 1)])];
+    let file = encode(&site);
+    let mut board = vec![0; 4 + 3 * 9];
+    for (holder, cell, first, last) in [(200, 0, 2, 8), (201, 1, 4, 4), (202, 2, 2, 2)] {
+        assert_eq!(desk::close(&file, &mut board, holder, cell, first, last), Answer::plain(0));
+    }
+    let (answer, light) = route_on(&site, &board, 0, 0, 1, 3);
+    assert_eq!(answer, Answer { number: 0, value: 43, arrival: 5 });
+    let steps = "12 0002 0000, 11 0002 0001, 12 0002 0001, 11 0002 0001, 12 0002 0002";
+    assert_eq!(light, four::hex(&format!("10 000F 00000003 07 0000 0000 0001 0005 0003, {steps}")));
+    assert_eq!(route_on(&site, &board, 0, 0, 1, 2).0, Answer { number: 0, value: 23, arrival: 1 });
+    assert_eq!(route_on(&site, &board, 0, 0, 1, 4).0, Answer::plain(18));
+    assert_eq!(desk::audit(&file, &board, &light), Answer::plain(0));
+}
+
+/// 1,000 steps and the head are 5,018 bytes; one step more is too long.
+#[test]
+fn longest_light() {
+    let site = to_and_fro(1_000);
+    let (file, board) = (encode(&site), vec![0; 4 + 2 * 1_001]);
+    for (steps, number) in [(1_000, 0), (1_001, 8)] {
+        let goal = steps % 2;
+        let light = Light { edition: 0, tug: 7, start: 0, tick: 0, goal, arrival: 1_000, dwell: 0, steps: (0..steps).map(|i| M(i % 2)).collect() };
+        let bytes = light.encode();
+        assert_eq!(bytes.len(), 18 + 5 * steps as usize);
+        assert_eq!(desk::audit(&file, &board, &bytes), Answer::plain(number), "{steps} steps");
+    }
 }

@@ -41,19 +41,19 @@ module _ (file board out words : List ℕ) where
       (λ i. record { number = same-number i; values = same-values i; lent = lends (stays i) (leaves i) words })
       ∙ sym (interval-alone file board out words cell)
 
-module _ (file : List ℕ) (l : Lent) (tug : ℕ) (a : Node) (goal : ℕ) where
+module _ (file : List ℕ) (l : Lent) (tug : ℕ) (a : Node) (goal dwell : ℕ) where
   abbrev routed : Done
-  routed = meant file l (listed (route tug a goal))
+  routed = meant file l (listed (route tug a goal dwell))
 
   -- a route never writes the board
   route-keeps : l .board ≡ routed .lent .board
   unfolding changed
-  route-keeps = by-number (lowest (refusals file l (listed (route tug a goal)))) refl
+  route-keeps = by-number (lowest (refusals file l (listed (route tug a goal dwell)))) refl
     where
-      by-number : (n : ℕ) → lowest (refusals file l (listed (route tug a goal))) ≡ n → l .board ≡ routed .lent .board
-      by-number zero e = sym (ap (λ (d : Done). d .lent .board) (meant-by file l (listed (route tug a goal)) 0 e) ∙ done-board (siteOf file) l (route tug a goal) 0)
+      by-number : (n : ℕ) → lowest (refusals file l (listed (route tug a goal dwell))) ≡ n → l .board ≡ routed .lent .board
+      by-number zero e = sym (ap (λ (d : Done). d .lent .board) (meant-by file l (listed (route tug a goal dwell)) 0 e) ∙ done-board (siteOf file) l (route tug a goal dwell) 0)
       by-number (suc n) e =
-          sym (ap (λ (d : Done). d .lent .board) (meant-by file l (listed (route tug a goal)) (suc n) e) ∙ done-board (siteOf file) l (route tug a goal) (suc n))
+          sym (ap (λ (d : Done). d .lent .board) (meant-by file l (listed (route tug a goal dwell)) (suc n) e) ∙ done-board (siteOf file) l (route tug a goal dwell) (suc n))
 
   pub route-exact : (kept : List ℕ) → kept ≡ l .board
       → (n : ℕ) (values out words : List ℕ) → n ≡ routed .number → values ≡ routed .values → out ≡ routed .lent .out → words ≡ routed .lent .words

@@ -62,7 +62,7 @@ number-most file l q = lowest-most 18 (refusals file l q) (each q)
     each : (k : PublicCall) → all (λ (r : Refusal). leb (r .number) 18) (refusals file l k) ≡ true
     each opening = refl
     each (interval cell) = refl
-    each (listed (route tug a goal)) = refl
+    each (listed (route tug a goal dwell)) = refl
     each (listed (audit light)) = refl
     each (listed (post light)) = refl
     each (listed (close h cell first last)) = refl
@@ -86,21 +86,21 @@ interval-back file l cell w same = by-number (lowest (refusals file l (interval 
         let most = number-most file l (interval cell) in
         rw (same, meant-by file l (interval cell) (suc n) e) (refused-back n _ (omega arith))
 
-module _ (file : List ℕ) (l : Lent) (tug : ℕ) (a : Node) (goal : ℕ) where
+module _ (file : List ℕ) (l : Lent) (tug : ℕ) (a : Node) (goal dwell : ℕ) where
   abbrev q : PublicCall
-  q = listed (route tug a goal)
+  q = listed (route tug a goal dwell)
 
   -- a granted light is short
-  light-short : lowest (refusals file l q) ≡ 0 → length (encode (grantedLight (siteOf file) (bytesView (siteOf file) (l .board)) tug a goal)) < 16777216
+  light-short : lowest (refusals file l q) ≡ 0 → length (encode (grantedLight (siteOf file) (bytesView (siteOf file) (l .board)) tug a goal dwell)) < 16777216
   unfolding grantedLight bytesView
   light-short e =
       let site : Site = siteOf file in
       let z : meant file l q .number ≡ 0 = meant-number file l q ∙ e in
       let well : WellFormed site = read-well file site (parts-read file l q (accepted-parts file l q z)) in
-      let (r, found) = granted-found file l tug a goal z in
-      let x : Light = grantedLight site (bytesView site (l .board)) tug a goal in
+      let (r, found) = granted-found file l tug a goal dwell z in
+      let x : Light = grantedLight site (bytesView site (l .board)) tug a goal dwell in
       let fits : length (encode x) ≤ lightRoom site =
-      all-laws .search .fits site well (free site (l .board)) a goal r found x (ap (λ (o : Option Route). routeFound o .steps) found) in
+      all-laws .search .fits site well (free site (l .board)) a goal dwell r found x (ap (λ (o : Option Route). routeFound o .steps) found) in
       let horizon : site .horizon ≤ 1000 = well .horizon-range .1 in
       omega arith
 

@@ -28,7 +28,7 @@ use Rattle.checks_light.specs.Work.{Postable}
 -- the goal that a light names is one of the site's states
 pub goal-below : (site : Site) (l : Light) → lightNamed site l ≡ true → l .goal < length (site .states)
 unfolding lightNamed
-goal-below site l h = named-goal site (startOf l) (l .goal) (every-at _ h 0)
+goal-below site l h = named-goal site (startOf l) (l .goal) (l .dwell) (every-at _ h 0)
 
 -- a file that is ready is laid out, and the layout says where its motions start
 pub ready-index : {file : List ℕ} {room : ℕ} {l : Sizes} → Ready file room l

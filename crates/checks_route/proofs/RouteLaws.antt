@@ -31,22 +31,22 @@ clears-behind : (n : ℕ) (xs : List Refusal) (r : Refusal) → n < r .number �
 clears-behind n [] r above h = (λ le. absurd (omega arith), tt)
 clears-behind n (x ∷ xs) r above (e, h) = (λ le. e, clears-behind n xs r above h)
 
-module _ (file : List ℕ) (lent : Lent) (tug : ℕ) (a : Node) (goal : ℕ) where
+module _ (file : List ℕ) (lent : Lent) (tug : ℕ) (a : Node) (goal dwell : ℕ) where
   abbrev site : Site
   site = siteOf file
 
   abbrev call : PublicCall
-  call = listed (route tug a goal)
+  call = listed (route tug a goal dwell)
 
   -- the checks 1 to 7, those up to 14, and the search
   abbrev first : List Refusal
   first = refusals file (onBoard (lent .board)) opening
 
   abbrev pub checks : List Refusal
-  checks = routeChecks site (bytesView site (lent .board)) (roomOf lent) tug a goal
+  checks = routeChecks site (bytesView site (lent .board)) (roomOf lent) tug a goal dwell
 
   abbrev searched : Refusal
-  searched = 18 if isNone (findRoute site (bytesView site (lent .board) .free) a goal)
+  searched = 18 if isNone (findRoute site (bytesView site (lent .board) .free) a goal dwell)
 
   later-parts : laterRefusals site lent call ≡ checks ++ (searched ∷ [])
   unfolding routeRefusals
@@ -99,18 +99,18 @@ module _ (file : List ℕ) (lent : Lent) (tug : ℕ) (a : Node) (goal : ℕ) whe
           (clears-behind 14 (first ++ checks) searched (omega arith)
           (each-join AnswersLaws.Passed first checks first-passed (AnswersLaws.rise-none 7 checks checks-rise (sym passed))))
 
-      pub passes : PassesTo14 site lent tug a goal
-      passes = passes-to-14 file lent tug a goal clears
+      pub passes : PassesTo14 site lent tug a goal dwell
+      passes = passes-to-14 file lent tug a goal dwell clears
 
       -- ---- then the search answers
 
-      pub found-meant : (r : Route) → findRoute site (free site (lent .board)) a goal ≡ some r → meant file lent call ≡ acceptedDone site lent call
+      pub found-meant : (r : Route) → findRoute site (free site (lent .board)) a goal dwell ≡ some r → meant file lent call ≡ acceptedDone site lent call
       unfolding bytesView
-      found-meant r found = meant-accepted file lent call (search-found file lent tug a goal clears (ap isNone found))
+      found-meant r found = meant-accepted file lent call (search-found file lent tug a goal dwell clears (ap isNone found))
 
       -- the words are zero, and all else is as before
-      pub none-meant : findRoute site (free site (lent .board)) a goal ≡ none → meant file lent call ≡ record { number = 18; values = []; lent = withWordsZero site lent }
+      pub none-meant : findRoute site (free site (lent .board)) a goal dwell ≡ none → meant file lent call ≡ record { number = 18; values = []; lent = withWordsZero site lent }
       unfolding bytesView
       none-meant no-route =
-          let number : meant file lent call .number ≡ 18 = search-none file lent tug a goal clears (ap isNone no-route) in
+          let number : meant file lent call .number ≡ 18 = search-none file lent tug a goal dwell clears (ap isNone no-route) in
           meant-by file lent call 18 (sym (meant-number file lent call) ∙ number) ∙ refused-18 site lent

@@ -16,5 +16,5 @@ unfoldable pub roomEnough : Site → Room → Bool
 roomEnough site room = every (leb (lightRoom site) (room .out) ∷ leb (wordsNeeded site) (room .words) ∷ [])
 
 -- the refusals of route without 18
-abbrev pub routeChecks : Site → View → Room → ℕ → Node → ℕ → List Refusal
-routeChecks site v room tug a goal = upToNumber 14 (routeRefusals site v room tug a goal)
+abbrev pub routeChecks : Site → View → Room → ℕ → Node → ℕ → ℕ → List Refusal
+routeChecks site v room tug a goal dwell = upToNumber 14 (routeRefusals site v room tug a goal dwell)

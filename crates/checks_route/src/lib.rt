@@ -43,7 +43,7 @@ pub fn route_refusal(
     work_len: usize,
 ) -> u8
     requires { ⌜ Ready (now file) (length (now board)) l ⌝ }
-    ensures { λ r. ⌜ ((areas : Room) → areas .out ≡ «out_len» → areas .words ≡ «work_len» → r ≡ lowest (routeChecks (siteOf (now (file .entry))) (bytesView (siteOf (now (file .entry))) (now (board .entry))) areas tug (node (trip .start) (trip .tick)) (trip .goal))) ⌝ }
+    ensures { λ r. ⌜ ((areas : Room) → areas .out ≡ «out_len» → areas .words ≡ «work_len» → r ≡ lowest (routeChecks (siteOf (now (file .entry))) (bytesView (siteOf (now (file .entry))) (now (board .entry))) areas tug (node (trip .start) (trip .tick)) (trip .goal) (trip .dwell))) ⌝ }
 {
     if !board_sorts::is_tug(tug) {
         return 9;

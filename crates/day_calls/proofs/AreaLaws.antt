@@ -39,8 +39,8 @@ module _ (file board out out′ words words′ : List ℕ) (same-out : length ou
 
   accepted-alike : (c : Call) → Alike (acceptedDone site (lends board out words) (listed c)) (acceptedDone site (lends board out′ words′) (listed c))
   unfolding acceptedDone
-  accepted-alike (route tug a goal) =
-      let light : List ℕ = encode (grantedLight site (bytesView site board) tug a goal) in
+  accepted-alike (route tug a goal dwell) =
+      let light : List ℕ = encode (grantedLight site (bytesView site board) tug a goal dwell) in
       record {
         number = refl;
         values = refl;
@@ -67,22 +67,22 @@ module _ (file board out out′ words words′ : List ℕ) (same-out : length ou
   areas-alike c = rw (ap lowest (same-refusals c)) (by-number c (lowest (refusals file (lends board out′ words′) (listed c))))
 
 -- a route leaves the board, and one that grants no light the output area
-module _ (l : Lent) (tug : ℕ) (a : Node) (goal : ℕ) where
-  by-board : (site : Site) (n : ℕ) → doneBy site l (listed (route tug a goal)) n .lent .board ≡ l .board
+module _ (l : Lent) (tug : ℕ) (a : Node) (goal dwell : ℕ) where
+  by-board : (site : Site) (n : ℕ) → doneBy site l (listed (route tug a goal dwell)) n .lent .board ≡ l .board
   unfolding acceptedDone
   by-board site zero = refl
-  by-board site (suc n) = done-board site l (route tug a goal) (suc n)
+  by-board site (suc n) = done-board site l (route tug a goal dwell) (suc n)
 
-  by-out : (site : Site) (n : ℕ) → doneBy site l (listed (route tug a goal)) n .values ≡ [] → doneBy site l (listed (route tug a goal)) n .lent .out ≡ l .out
+  by-out : (site : Site) (n : ℕ) → doneBy site l (listed (route tug a goal dwell)) n .values ≡ [] → doneBy site l (listed (route tug a goal dwell)) n .lent .out ≡ l .out
   unfolding acceptedDone refusedDone
   by-out site zero e = absurd (let z = ap length e in omega arith)
   by-out site (suc n) e = decide (eqb (suc n) 18) (λ q. simp q) (λ q. simp q)
 
   module _ (file : List ℕ) where
-    pub route-board : meant file l (listed (route tug a goal)) .lent .board ≡ l .board
+    pub route-board : meant file l (listed (route tug a goal dwell)) .lent .board ≡ l .board
     unfolding meant
-    route-board = by-board (siteOf file) (lowest (refusals file l (listed (route tug a goal))))
+    route-board = by-board (siteOf file) (lowest (refusals file l (listed (route tug a goal dwell))))
 
-    pub no-light : meant file l (listed (route tug a goal)) .values ≡ [] → meant file l (listed (route tug a goal)) .lent .out ≡ l .out
+    pub no-light : meant file l (listed (route tug a goal dwell)) .values ≡ [] → meant file l (listed (route tug a goal dwell)) .lent .out ≡ l .out
     unfolding meant
-    no-light e = by-out (siteOf file) (lowest (refusals file l (listed (route tug a goal)))) e
+    no-light e = by-out (siteOf file) (lowest (refusals file l (listed (route tug a goal dwell)))) e

@@ -50,9 +50,9 @@ module _ (file board out : List ℕ) (light : ℕ) (c : Call) (b : BoardCall (li
 
 -- ---- a route
 
-module _ (file board out words : List ℕ) (light tug start tick goal : ℕ) (sized : length out ≡ dayArea) (worded : length words ≡ dayWords) where
+module _ (file board out words : List ℕ) (light tug start tick goal dwell : ℕ) (sized : length out ≡ dayArea) (worded : length words ≡ dayWords) where
   abbrev call : Call
-  call = route tug (record { state = start; tick = tick }) goal
+  call = route tug (record { state = start; tick = tick }) goal dwell
 
   abbrev lent : Lent
   lent = lends board out words
@@ -71,14 +71,14 @@ module _ (file board out words : List ℕ) (light tug start tick goal : ℕ) (si
 
   -- the board and the light of the day after
   same-board : board ≡ dayDone file d call .lent .board
-  same-board = sym (route-board lent tug (record { state = start; tick = tick }) goal file) ∙ alike .board
+  same-board = sym (route-board lent tug (record { state = start; tick = tick }) goal dwell file) ∙ alike .board
 
   module _ (g : Granted) (left : List ℕ) (answered : g ≡ grantedOf is) (written : left ≡ is .lent .out) where
     values : grantedValues g ≡ is .values
-    values = ap grantedValues answered ∙ granted-values file lent tug start tick goal
+    values = ap grantedValues answered ∙ granted-values file lent tug start tick goal dwell
 
     number : grantedNumber g ≡ dayDone file d call .number
-    number = ap grantedNumber answered ∙ granted-number file lent tug start tick goal ∙ alike .number
+    number = ap grantedNumber answered ∙ granted-number file lent tug start tick goal dwell ∙ alike .number
 
     arrival : arrivalOf (grantedValues g) ≡ arrivalOf (dayDone file d call .values)
     arrival = ap arrivalOf (values ∙ alike .values)
@@ -102,7 +102,7 @@ module _ (file board out words : List ℕ) (light tug start tick goal : ℕ) (si
   pub routed-performed : (k : Call) (g : Granted) (left : List ℕ) (r : CallResult) → k ≡ call → g ≡ grantedOf is → left ≡ is .lent .out → r ≡ routedResult g light
       → Performed file d k r (dayAt board left (r .light))
   routed-performed k g left r e p q t =
-      let kept : grantedValues g ≡ [] → left ≡ out = λ z. q ∙ no-light lent tug (record { state = start; tick = tick }) goal file (sym (values g left p q) ∙ z) in
+      let kept : grantedValues g ≡ [] → left ≡ out = λ z. q ∙ no-light lent tug (record { state = start; tick = tick }) goal dwell file (sym (values g left p q) ∙ z) in
       rw (e, t)
       (record {
         number = result-number g ∙ number g left p q;

@@ -31,8 +31,8 @@ pub fn perform(
             dispatch::withdraw(file, board, holder),
             light,
         ),
-        Order::Route(tug, start, tick, goal) => {
-            let g = dispatch::route(file, board, tug, start, tick, goal, out, words);
+        Order::Route(tug, start, tick, goal, dwell) => {
+            let g = dispatch::route(file, board, tug, start, tick, goal, dwell, out, words);
             day_results::routed(g, light)
         }
         Order::Post => day_results::changed(dispatch::post(file, board, &out[..light]), light),

@@ -61,7 +61,7 @@ is-end End = 1
 for-no-end : (o : Option C.Call) → is-end (entryFor o) ≡ 0
 for-no-end (some (C.close h cell first last)) = refl
 for-no-end (some (C.withdraw h)) = refl
-for-no-end (some (C.route tug a goal)) = refl
+for-no-end (some (C.route tug a goal dwell)) = refl
 for-no-end (some (C.post light)) = refl
 for-no-end (some (C.audit light)) = refl
 for-no-end none = refl
@@ -105,12 +105,25 @@ module _ (s : List ℕ) (h : Header) (w : Whole s 0 h) where
   unfolding entryBy callOf
   withdraw-entry p c e = rw (c, e, first-byte p) refl
 
-  pub route-entry : (start tick goal : ℕ) → routeSize ≤ h .len → isField f closeTag closeSize ≡ false → isField f withdrawTag withdrawSize ≡ false → isField f routeTag routeSize ≡ true
-      → start ≡ u16At s (h .start + 1) → tick ≡ u16At s (h .start + 3) → goal ≡ u16At s (h .start + 5)
-      → Call (Route (getD s (h .start) 0) start tick goal) ≡ entryBy f
+  pub route-entry : (start tick goal dwell : ℕ) → routeSize ≤ h .len → isField f closeTag closeSize ≡ false → isField f withdrawTag withdrawSize ≡ false → isField f routeTag routeSize ≡ true
+      → start ≡ u16At s (h .start + 1) → tick ≡ u16At s (h .start + 3) → goal ≡ u16At s (h .start + 5) → dwell ≡ u16At s (h .start + 7)
+      → Call (Route (getD s (h .start) 0) start tick goal dwell) ≡ entryBy f
   unfolding entryBy callOf
-  route-entry start tick goal p c d e a b g =
-      rw (c, d, e, first-byte (omega arith), whole-u16 s 0 h w 1 (omega arith), whole-u16 s 0 h w 3 (omega arith), whole-u16 s 0 h w 5 (omega arith), a, b, g) refl
+  route-entry start tick goal dwell p c d e a b g x =
+      rw (
+        c,
+        d,
+        e,
+        first-byte (omega arith),
+        whole-u16 s 0 h w 1 (omega arith),
+        whole-u16 s 0 h w 3 (omega arith),
+        whole-u16 s 0 h w 5 (omega arith),
+        whole-u16 s 0 h w 7 (omega arith),
+        a,
+        b,
+        g,
+        x,
+      ) refl
 
   pub post-entry : isField f closeTag closeSize ≡ false → isField f withdrawTag withdrawSize ≡ false → isField f routeTag routeSize ≡ false → isField f postTag 0 ≡ true
       → Call Post ≡ entryBy f

@@ -15,7 +15,7 @@ use Rattle.day_orders.specs.declared.Entry.the-variants.{Call, Bad, End}
 abbrev pub entryFor : Option C.Call → Entry
 entryFor (some (C.close h cell first last)) = Call (Close h cell first last)
 entryFor (some (C.withdraw h)) = Call (Withdraw h)
-entryFor (some (C.route tug a goal)) = Call (Route tug (a .state) (a .tick) goal)
+entryFor (some (C.route tug a goal dwell)) = Call (Route tug (a .state) (a .tick) goal dwell)
 entryFor (some (C.post light)) = Call Post
 entryFor (some (C.audit light)) = Bad
 entryFor none = Bad
@@ -34,7 +34,7 @@ entryOf (next f fs) = entryBy f
 abbrev pub callBy : List ℕ → Order → C.Call
 callBy light (Close h cell first last) = C.close h cell first last
 callBy light (Withdraw h) = C.withdraw h
-callBy light (Route tug start tick goal) = C.route tug (record { state = start; tick = tick }) goal
+callBy light (Route tug start tick goal dwell) = C.route tug (record { state = start; tick = tick }) goal dwell
 callBy light Post = C.post light
 
 abbrev pub entryCall : List ℕ → Entry → Option C.Call

@@ -24,7 +24,7 @@ const CLOSE_SIZE: usize = 6;
 
 const WITHDRAW_SIZE: usize = 1;
 
-const ROUTE_SIZE: usize = 7;
+const ROUTE_SIZE: usize = 9;
 
 const POST_SIZE: usize = 0;
 
@@ -35,7 +35,7 @@ pub const PIECE: usize = FIELD_HEADER + ROUTE_SIZE;
 pub enum Order {
     Close(u8, u8, u16, u16),
     Withdraw(u8),
-    Route(u8, u16, u16, u16),
+    Route(u8, u16, u16, u16, u16),
     Post,
 }
 
@@ -91,7 +91,8 @@ fn field_entry(bytes: &[u8], h: Header) -> Entry
         let start = fields::u16_at(bytes, at + 1);
         let tick = fields::u16_at(bytes, at + 3);
         let goal = fields::u16_at(bytes, at + 5);
-        return Entry::Call(Order::Route(bytes[at], start, tick, goal));
+        let dwell = fields::u16_at(bytes, at + 7);
+        return Entry::Call(Order::Route(bytes[at], start, tick, goal, dwell));
     }
     if is_call(tag, len, POST, POST_SIZE) {
         return Entry::Call(Order::Post);

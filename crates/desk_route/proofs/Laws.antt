@@ -31,22 +31,22 @@ use Rattle.answers.specs.Answers.{grantedNumber, grantedValues, grantedBy, gran
 
 -- ---- each case of an answer has the number and the values that are meant
 
-granted-case : (site : Site) (l : Lent) (c : PublicCall) (tug start tick goal n : ℕ) → c ≡ listed (route tug (node start tick) goal)
+granted-case : (site : Site) (l : Lent) (c : PublicCall) (tug start tick goal dwell n : ℕ) → c ≡ listed (route tug (node start tick) goal dwell)
     → (grantedNumber (grantedOf (doneBy site l c n)) ≡ n) × (grantedValues (grantedOf (doneBy site l c n)) ≡ doneBy site l c n .values)
 unfolding acceptedDone refusedDone
-granted-case site l c tug start tick goal zero e = rw e (refl, refl)
-granted-case site l c tug start tick goal (suc n) e = (refl, refl)
+granted-case site l c tug start tick goal dwell zero e = rw e (refl, refl)
+granted-case site l c tug start tick goal dwell (suc n) e = (refl, refl)
 
-module _ (file : List ℕ) (l : Lent) (tug start tick goal : ℕ) where
-  pub granted-number : grantedNumber (grantedOf (meant file l (listed (route tug (node start tick) goal)))) ≡ meant file l (listed (route tug (node start tick) goal)) .number
+module _ (file : List ℕ) (l : Lent) (tug start tick goal dwell : ℕ) where
+  pub granted-number : grantedNumber (grantedOf (meant file l (listed (route tug (node start tick) goal dwell)))) ≡ meant file l (listed (route tug (node start tick) goal dwell)) .number
   unfolding meant
   granted-number =
-      granted-case (siteOf file) l _ tug start tick goal (lowest (refusals file l (listed (route tug (node start tick) goal)))) refl .0
-      ∙ sym (meant-number file l (listed (route tug (node start tick) goal)))
+      granted-case (siteOf file) l _ tug start tick goal dwell (lowest (refusals file l (listed (route tug (node start tick) goal dwell)))) refl .0
+      ∙ sym (meant-number file l (listed (route tug (node start tick) goal dwell)))
 
-  pub granted-values : grantedValues (grantedOf (meant file l (listed (route tug (node start tick) goal)))) ≡ meant file l (listed (route tug (node start tick) goal)) .values
+  pub granted-values : grantedValues (grantedOf (meant file l (listed (route tug (node start tick) goal dwell)))) ≡ meant file l (listed (route tug (node start tick) goal dwell)) .values
   unfolding meant
-  granted-values = granted-case (siteOf file) l _ tug start tick goal (lowest (refusals file l (listed (route tug (node start tick) goal)))) refl .1
+  granted-values = granted-case (siteOf file) l _ tug start tick goal dwell (lowest (refusals file l (listed (route tug (node start tick) goal dwell)))) refl .1
 
 -- ---- by the answer of the checks
 
@@ -54,15 +54,15 @@ module _ (file : List ℕ) (l : Lent) (tug start tick goal : ℕ) where
 abbrev Leaves : Done → Granted → List ℕ → List ℕ → Type 0
 Leaves d r out words = (r ≡ grantedOf d) × ((out ≡ d .lent .out) × (words ≡ d .lent .words))
 
-module _ (file board out words : List ℕ) (tug start tick goal : ℕ) where
+module _ (file board out words : List ℕ) (tug start tick goal dwell : ℕ) where
   abbrev lent : Lent
   lent = lends board out words
 
   abbrev trip : Trip
-  trip = record { start = start; tick = tick; goal = goal }
+  trip = record { start = start; tick = tick; goal = goal; dwell = dwell }
 
   abbrev is : Done
-  is = meant file lent (listed (route tug (node start tick) goal))
+  is = meant file lent (listed (route tug (node start tick) goal dwell))
 
   -- refused before the search: nothing is written
   granted-refused : (n : ℕ) → 1 ≤ n → G.Refused n ≡ grantedBy n []
@@ -75,20 +75,20 @@ module _ (file board out words : List ℕ) (tug start tick goal : ℕ) where
   -- by a number up to 7
   pub route-first : (n : ℕ) → Refused n ≡ checkBy (siteOf file) (lowest (refusals file (onBoard board) opening)) → Leaves is (G.Refused n) out words
   route-first n e =
-      refused-leaves n (routes.first-meant file lent tug (node start tick) goal n e) (refused-number (sizesOf (siteOf file)) n _ e .1)
+      refused-leaves n (routes.first-meant file lent tug (node start tick) goal dwell n e) (refused-number (sizesOf (siteOf file)) n _ e .1)
 
   module _ (l : Sizes) (e : Passed l ≡ checkBy (siteOf file) (lowest (refusals file (onBoard board) opening))) where
     -- by a number from 9 on
-    pub route-later : (n : ℕ) → n ≡ lowest (routes.checks file lent tug (node start tick) goal) → 1 ≤ n → Leaves is (G.Refused n) out words
-    route-later n same above = refused-leaves n (routes.later-meant file lent tug (node start tick) goal l e n same above) above
+    pub route-later : (n : ℕ) → n ≡ lowest (routes.checks file lent tug (node start tick) goal dwell) → 1 ≤ n → Leaves is (G.Refused n) out words
+    route-later n same above = refused-leaves n (routes.later-meant file lent tug (node start tick) goal dwell l e n same above) above
 
     readied : Ready file (length board) l
     readied = ready file (onBoard board) opening l e
 
   module _ (l : Sizes) (e : Passed l ≡ checkBy (siteOf file) (lowest (refusals file (onBoard board) opening)))
-      (passed : 0 ≡ lowest (routes.checks file lent tug (node start tick) goal)) where
-    passes : PassesTo14 (siteOf file) lent tug (node start tick) goal
-    passes = routes.passes file lent tug (node start tick) goal l e passed
+      (passed : 0 ≡ lowest (routes.checks file lent tug (node start tick) goal dwell)) where
+    passes : PassesTo14 (siteOf file) lent tug (node start tick) goal dwell
+    passes = routes.passes file lent tug (node start tick) goal dwell l e passed
 
     pub route-asked : Asked file l (length board) trip
     route-asked = record { ready = readied l e; named = passes .named }
@@ -116,7 +116,7 @@ module _ (file board out words : List ℕ) (tug start tick goal : ℕ) where
             let no : F.Route len arrival ≡ F.Nothing = f ∙ ap (λ (x : Option Route). foundOf x light) q in
             absurd (let y : _≡_ {A = ℕ} 0 1 = cc in omega arith)
         by-route (some r) q =
-            let same : is ≡ grantedDone (siteOf file) lent light = routes.found-meant file lent tug (node start tick) goal l e passed r q in
+            let same : is ≡ grantedDone (siteOf file) lent light = routes.found-meant file lent tug (node start tick) goal dwell l e passed r q in
             let told : F.Route len arrival ≡ F.Route (length (encode light)) (light .arrival) = f ∙ ap (λ (x : Option Route). foundOf x light) q in
             let same-length : len ≡ length (encode light) = cc in
             let same-arrival : arrival ≡ light .arrival = cc in
@@ -130,7 +130,7 @@ module _ (file board out words : List ℕ) (tug start tick goal : ℕ) where
       where
         by-route : (p : Option Route) → o ≡ p → Leaves is (G.Refused 18) left new
         by-route none q =
-            rw (routes.none-meant file lent tug (node start tick) goal l e passed q)
+            rw (routes.none-meant file lent tug (node start tick) goal dwell l e passed q)
             (refl, (w ∙ ap (λ (x : Option Route). outOf x light out) q, z))
         by-route (some r) q =
             let no : F.Nothing ≡ F.Route (length (encode light)) (light .arrival) = f ∙ ap (λ (x : Option Route). foundOf x light) q in

@@ -22,7 +22,8 @@ fn zero_words(work: &mut [u32], needed: usize)
     }
 }
 
-// Writes the light of the traced plan with the least arrival, and leaves the working words that a search needs zero.
+// Writes the light of the traced plan with the least arrival from which the tug can unload, and leaves the working words that a
+// search needs zero.
 pub fn route(
     file: &[u8],
     board: &[u8],
@@ -30,18 +31,24 @@ pub fn route(
     start: u16,
     tick: u16,
     goal: u16,
+    dwell: u16,
     out: &mut [u8],
     work: &mut [u32],
 ) -> Granted
-    ensures { λ r. ⌜ r ≡ grantedOf (meant (now (file .entry)) (lends (now (board .entry)) (now (out .entry)) (now (work .entry))) (listed (route tug (node start tick) goal))) ⌝ }
-    ensures { λ _. ⌜ now (out .exit) ≡ meant (now (file .entry)) (lends (now (board .entry)) (now (out .entry)) (now (work .entry))) (listed (route tug (node start tick) goal)) .lent .out ⌝ }
-    ensures { λ _. ⌜ now (work .exit) ≡ meant (now (file .entry)) (lends (now (board .entry)) (now (out .entry)) (now (work .entry))) (listed (route tug (node start tick) goal)) .lent .words ⌝ }
+    ensures { λ r. ⌜ r ≡ grantedOf (meant (now (file .entry)) (lends (now (board .entry)) (now (out .entry)) (now (work .entry))) (listed (route tug (node start tick) goal dwell))) ⌝ }
+    ensures { λ _. ⌜ now (out .exit) ≡ meant (now (file .entry)) (lends (now (board .entry)) (now (out .entry)) (now (work .entry))) (listed (route tug (node start tick) goal dwell)) .lent .out ⌝ }
+    ensures { λ _. ⌜ now (work .exit) ≡ meant (now (file .entry)) (lends (now (board .entry)) (now (out .entry)) (now (work .entry))) (listed (route tug (node start tick) goal dwell)) .lent .words ⌝ }
     ensures { λ _. ⌜ now (file .exit) ≡ now (file .entry) ⌝ }
     ensures { λ _. ⌜ now (board .exit) ≡ now (board .entry) ⌝ }
 {
     match checks::check_board(file, board) {
         Check::Passed(l) => {
-            let trip = Trip { start, tick, goal };
+            let trip = Trip {
+                start,
+                tick,
+                goal,
+                dwell,
+            };
             let number = checks_route::route_refusal(
                 file,
                 board,

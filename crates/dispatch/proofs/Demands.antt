@@ -37,9 +37,9 @@ pub data Calls : List ℕ → Lent → PublicCall → Done → Type 0 where
       → interval-reads.Learnt κs (file, (board, (cell, (out, tt)))) r (file′, (board′, (cell′, (left, tt))))
       → Calls (now file) (lends (now board) (now out) words) (interval cell)
       (record { number = countedNumber r; values = countedValues r; lent = lends (now board′) (now left) words })
-  routes : (κs : Lfts 4) (file board out words file′ board′ left cleared : RefT (List ℕ)) (tug start tick goal tug′ start′ tick′ goal′ : ℕ) (r : Granted)
-      → route-reads.Learnt κs (file, (board, (tug, (start, (tick, (goal, (out, (words, tt)))))))) r (file′, (board′, (tug′, (start′, (tick′, (goal′, (left, (cleared, tt))))))))
-      → Calls (now file) (lends (now board) (now out) (now words)) (listed (route tug (node start tick) goal))
+  routes : (κs : Lfts 4) (file board out words file′ board′ left cleared : RefT (List ℕ)) (tug start tick goal dwell tug′ start′ tick′ goal′ dwell′ : ℕ) (r : Granted)
+      → route-reads.Learnt κs (file, (board, (tug, (start, (tick, (goal, (dwell, (out, (words, tt))))))))) r (file′, (board′, (tug′, (start′, (tick′, (goal′, (dwell′, (left, (cleared, tt)))))))))
+      → Calls (now file) (lends (now board) (now out) (now words)) (listed (route tug (node start tick) goal dwell))
       (record { number = grantedNumber r; values = grantedValues r; lent = lends (now board′) (now left) (now cleared) })
   audits : (κs : Lfts 3) (file board light file′ left light′ : RefT (List ℕ)) (out words : List ℕ) (r : Answer)
       → audit-reads.Learnt κs (file, (board, (light, tt))) r (file′, (left, (light′, tt)))
@@ -58,8 +58,8 @@ pub data Calls : List ℕ → Lent → PublicCall → Done → Type 0 where
 pub exact : Exact Calls
 exact file l q d (Calls.opens κs f board f′ left out words r p) = open-meant f board f′ left out words r κs p .0
 exact file l q d (Calls.counts κs f board out f′ board′ left cell cell′ words r p) = interval-meant f board out f′ board′ left words r κs cell cell′ p .0
-exact file l q d (Calls.routes κs f board out words f′ board′ left cleared tug start tick goal tug′ start′ tick′ goal′ r p) =
-    route-meant f board out words f′ board′ left cleared r κs tug start tick goal tug′ start′ tick′ goal′ p .0
+exact file l q d (Calls.routes κs f board out words f′ board′ left cleared tug start tick goal dwell tug′ start′ tick′ goal′ dwell′ r p) =
+    route-meant f board out words f′ board′ left cleared r κs tug start tick goal dwell tug′ start′ tick′ goal′ dwell′ p .0
 exact file l q d (Calls.audits κs f board light f′ left light′ out words r p) = audit-meant f board light f′ left light′ out words r κs p .0
 exact file l q d (Calls.posts κs f board light f′ left light′ out words r p) = post-meant f board light f′ left light′ out words r κs p .0
 exact file l q d (Calls.closes κs f board f′ left h cell first last h′ cell′ first′ last′ out words r p) =
@@ -83,8 +83,8 @@ pub record Unchanged : Type 0 where
   pub opens : (κs : Lfts 2) (file board file′ left : RefT (List ℕ)) (r : Answer) → open-reads.Learnt κs (file, (board, tt)) r (file′, (left, tt)) → now file′ ≡ now file
   pub counts : (κs : Lfts 3) (file board out file′ board′ left : RefT (List ℕ)) (cell cell′ : ℕ) (r : Counted)
       → interval-reads.Learnt κs (file, (board, (cell, (out, tt)))) r (file′, (board′, (cell′, (left, tt)))) → now file′ ≡ now file
-  pub routes : (κs : Lfts 4) (file board out words file′ board′ left cleared : RefT (List ℕ)) (tug start tick goal tug′ start′ tick′ goal′ : ℕ) (r : Granted)
-      → route-reads.Learnt κs (file, (board, (tug, (start, (tick, (goal, (out, (words, tt)))))))) r (file′, (board′, (tug′, (start′, (tick′, (goal′, (left, (cleared, tt))))))))
+  pub routes : (κs : Lfts 4) (file board out words file′ board′ left cleared : RefT (List ℕ)) (tug start tick goal dwell tug′ start′ tick′ goal′ dwell′ : ℕ) (r : Granted)
+      → route-reads.Learnt κs (file, (board, (tug, (start, (tick, (goal, (dwell, (out, (words, tt))))))))) r (file′, (board′, (tug′, (start′, (tick′, (goal′, (dwell′, (left, (cleared, tt)))))))))
       → now file′ ≡ now file
   pub audits : (κs : Lfts 3) (file board light file′ left light′ : RefT (List ℕ)) (r : Answer)
       → audit-reads.Learnt κs (file, (board, (light, tt))) r (file′, (left, (light′, tt))) → (now file′ ≡ now file) × (now light′ ≡ now light)
@@ -99,8 +99,8 @@ pub unchanged : Unchanged
 unchanged = record {
   opens = λ κs file board file′ left r p. open-meant file board file′ left [] [] r κs p .1;
   counts = λ κs file board out file′ board′ left cell cell′ r p. interval-meant file board out file′ board′ left [] r κs cell cell′ p .1;
-  routes = λ κs file board out words file′ board′ left cleared tug start tick goal tug′ start′ tick′ goal′ r p.
-      route-meant file board out words file′ board′ left cleared r κs tug start tick goal tug′ start′ tick′ goal′ p .1;
+  routes = λ κs file board out words file′ board′ left cleared tug start tick goal dwell tug′ start′ tick′ goal′ dwell′ r p.
+      route-meant file board out words file′ board′ left cleared r κs tug start tick goal dwell tug′ start′ tick′ goal′ dwell′ p .1;
   audits = λ κs file board light file′ left light′ r p. audit-meant file board light file′ left light′ [] [] r κs p .1;
   posts = λ κs file board light file′ left light′ r p. post-meant file board light file′ left light′ [] [] r κs p .1;
   closes = λ κs file board file′ left h cell first last h′ cell′ first′ last′ r p.
@@ -113,8 +113,8 @@ unchanged = record {
 pub record AsksNothing : Type 0 where
   pub opens : (κs : Lfts 2) (file board : RefT (List ℕ)) → open-reads.Asked κs (file, (board, tt))
   pub counts : (κs : Lfts 3) (file board out : RefT (List ℕ)) (cell : ℕ) → interval-reads.Asked κs (file, (board, (cell, (out, tt))))
-  pub routes : (κs : Lfts 4) (file board out words : RefT (List ℕ)) (tug start tick goal : ℕ)
-      → route-reads.Asked κs (file, (board, (tug, (start, (tick, (goal, (out, (words, tt))))))))
+  pub routes : (κs : Lfts 4) (file board out words : RefT (List ℕ)) (tug start tick goal dwell : ℕ)
+      → route-reads.Asked κs (file, (board, (tug, (start, (tick, (goal, (dwell, (out, (words, tt)))))))))
   pub audits : (κs : Lfts 3) (file board light : RefT (List ℕ)) → audit-reads.Asked κs (file, (board, (light, tt)))
   pub posts : (κs : Lfts 3) (file board light : RefT (List ℕ)) → post-reads.Asked κs (file, (board, (light, tt)))
   pub closes : (κs : Lfts 2) (file board : RefT (List ℕ)) (h cell first last : ℕ) → close-reads.Asked κs (file, (board, (h, (cell, (first, (last, tt))))))
@@ -124,7 +124,7 @@ pub asks-nothing : AsksNothing
 asks-nothing = record {
   opens = λ κs file board. tt;
   counts = λ κs file board out cell. tt;
-  routes = λ κs file board out words tug start tick goal. tt;
+  routes = λ κs file board out words tug start tick goal dwell. tt;
   audits = λ κs file board light. tt;
   posts = λ κs file board light. tt;
   closes = λ κs file board h cell first last. tt;
@@ -146,11 +146,11 @@ module _ (file : List ℕ) where
       (_, Calls.opens (lifetimes 2) (lend file) (lend (l .board)) (lend file) (lend (onBoardDone l opening .lent .board)) (l .out) (l .words) (answerOf (onBoardDone l opening .number)) (refl, (refl, refl)))
   some l (interval cell) =
       (_, Calls.counts (lifetimes 3) (lend file) (lend (l .board)) (lend (l .out)) (lend file) (lend (l .board)) (lend (intervalDone l cell .lent .out)) cell cell (l .words) (countedOf (intervalDone l cell)) (refl, (refl, (refl, refl))))
-  some l (listed (route tug a goal)) =
-      let is : Done = meant file l (listed (route tug a goal)) in (
+  some l (listed (route tug a goal dwell)) =
+      let is : Done = meant file l (listed (route tug a goal dwell)) in (
         _,
         Calls.routes (lifetimes 4) (lend file) (lend (l .board)) (lend (l .out)) (lend (l .words)) (lend file) (lend (l .board)) (lend (is .lent .out)) (lend (is .lent .words))
-            tug (a .state) (a .tick) goal tug (a .state) (a .tick) goal (grantedOf is) (refl, (refl, (refl, (refl, refl)))),
+            tug (a .state) (a .tick) goal dwell tug (a .state) (a .tick) goal dwell (grantedOf is) (refl, (refl, (refl, (refl, refl)))),
       )
   some l (listed (audit light)) =
       (_, Calls.audits (lifetimes 3) (lend file) (lend (l .board)) (lend light) (lend file) (lend (l .board)) (lend light) (l .out) (l .words) (answerOf (onBoardDone l (listed (audit light)) .number)) (refl, (refl, (refl, refl))))

@@ -33,9 +33,9 @@ pub data Exported : List ℕ → Lent → PublicCall → Done → Type 0 where
       → interval-reads.Learnt κs (file, (board, (cell, (out, tt)))) w (file′, (board′, (cell′, (left, tt))))
       → Exported (now file) (lends (now board) (now out) words) (interval cell)
       (record { number = wordNumber w; values = countedIn w; lent = lends (now board′) (now left) words })
-  routes : (κs : Lfts 4) (file board out words file′ board′ left cleared : RefT (List ℕ)) (tug start tick goal tug′ start′ tick′ goal′ w : ℕ)
-      → route-reads.Learnt κs (file, (board, (tug, (start, (tick, (goal, (out, (words, tt)))))))) w (file′, (board′, (tug′, (start′, (tick′, (goal′, (left, (cleared, tt))))))))
-      → Exported (now file) (lends (now board) (now out) (now words)) (listed (route tug (node start tick) goal))
+  routes : (κs : Lfts 4) (file board out words file′ board′ left cleared : RefT (List ℕ)) (tug start tick goal dwell tug′ start′ tick′ goal′ dwell′ w : ℕ)
+      → route-reads.Learnt κs (file, (board, (tug, (start, (tick, (goal, (dwell, (out, (words, tt))))))))) w (file′, (board′, (tug′, (start′, (tick′, (goal′, (dwell′, (left, (cleared, tt)))))))))
+      → Exported (now file) (lends (now board) (now out) (now words)) (listed (route tug (node start tick) goal dwell))
       (record { number = wordNumber w; values = grantedIn w; lent = lends (now board′) (now left) (now cleared) })
   audits : (κs : Lfts 3) (file board light file′ left light′ : RefT (List ℕ)) (out words : List ℕ) (w : ℕ)
       → audit-reads.Learnt κs (file, (board, (light, tt))) w (file′, (left, (light′, tt)))
@@ -62,10 +62,10 @@ exact file l q d (Exported.opens κs f board f′ left out words w p) = board-wo
 exact file l q d (Exported.counts κs f board out f′ board′ left cell cell′ words w p) =
     let back = interval-back (now f) (lends (now board) (now out) []) cell w (p .0) in
     interval-exact (now f) (now board) (now out) words (now board′) (p .1 .1 .1) cell (wordNumber w) (countedIn w) (now left) (back .0) (back .1) (p .1 .0)
-exact file l q d (Exported.routes κs f board out words f′ board′ left cleared tug start tick goal tug′ start′ tick′ goal′ w p) =
+exact file l q d (Exported.routes κs f board out words f′ board′ left cleared tug start tick goal dwell tug′ start′ tick′ goal′ dwell′ w p) =
     let lent : Lent = lends (now board) (now out) (now words) in
-    let back = route-back (now f) lent tug (node start tick) goal w (p .0) in
-    route-exact (now f) lent tug (node start tick) goal (now board′) (p .1 .1 .1 .1) (wordNumber w) (grantedIn w) (now left) (now cleared)
+    let back = route-back (now f) lent tug (node start tick) goal dwell w (p .0) in
+    route-exact (now f) lent tug (node start tick) goal dwell (now board′) (p .1 .1 .1 .1) (wordNumber w) (grantedIn w) (now left) (now cleared)
     (back .0) (back .1) (p .1 .0) (p .1 .1 .0)
 exact file l q d (Exported.audits κs f board light f′ left light′ out words w p) =
     audit-exact (now f) (now board) out words (now left) (now light) (p .1 .1 .0) (wordNumber w)
@@ -93,8 +93,8 @@ pub record Unchanged : Type 0 where
   pub opens : (κs : Lfts 2) (file board file′ left : RefT (List ℕ)) (w : ℕ) → open-reads.Learnt κs (file, (board, tt)) w (file′, (left, tt)) → now file′ ≡ now file
   pub counts : (κs : Lfts 3) (file board out file′ board′ left : RefT (List ℕ)) (cell cell′ : ℕ) (w : ℕ)
       → interval-reads.Learnt κs (file, (board, (cell, (out, tt)))) w (file′, (board′, (cell′, (left, tt)))) → now file′ ≡ now file
-  pub routes : (κs : Lfts 4) (file board out words file′ board′ left cleared : RefT (List ℕ)) (tug start tick goal tug′ start′ tick′ goal′ : ℕ) (w : ℕ)
-      → route-reads.Learnt κs (file, (board, (tug, (start, (tick, (goal, (out, (words, tt)))))))) w (file′, (board′, (tug′, (start′, (tick′, (goal′, (left, (cleared, tt))))))))
+  pub routes : (κs : Lfts 4) (file board out words file′ board′ left cleared : RefT (List ℕ)) (tug start tick goal dwell tug′ start′ tick′ goal′ dwell′ : ℕ) (w : ℕ)
+      → route-reads.Learnt κs (file, (board, (tug, (start, (tick, (goal, (dwell, (out, (words, tt))))))))) w (file′, (board′, (tug′, (start′, (tick′, (goal′, (dwell′, (left, (cleared, tt)))))))))
       → now file′ ≡ now file
   pub audits : (κs : Lfts 3) (file board light file′ left light′ : RefT (List ℕ)) (w : ℕ)
       → audit-reads.Learnt κs (file, (board, (light, tt))) w (file′, (left, (light′, tt))) → (now file′ ≡ now file) × (now light′ ≡ now light)
@@ -109,7 +109,7 @@ pub unchanged : Unchanged
 unchanged = record {
   opens = λ κs file board file′ left w p. p .1 .1;
   counts = λ κs file board out file′ board′ left cell cell′ w p. p .1 .1 .0;
-  routes = λ κs file board out words file′ board′ left cleared tug start tick goal tug′ start′ tick′ goal′ w p. p .1 .1 .1 .0;
+  routes = λ κs file board out words file′ board′ left cleared tug start tick goal dwell tug′ start′ tick′ goal′ dwell′ w p. p .1 .1 .1 .0;
   audits = λ κs file board light file′ left light′ w p. (p .1 .0, p .1 .1 .1);
   posts = λ κs file board light file′ left light′ w p. (p .1 .1 .0, p .1 .1 .1);
   closes = λ κs file board file′ left h cell first last h′ cell′ first′ last′ w p. p .1 .1;
@@ -121,8 +121,8 @@ unchanged = record {
 pub record AsksNothing : Type 0 where
   pub opens : (κs : Lfts 2) (file board : RefT (List ℕ)) → open-reads.Asked κs (file, (board, tt))
   pub counts : (κs : Lfts 3) (file board out : RefT (List ℕ)) (cell : ℕ) → interval-reads.Asked κs (file, (board, (cell, (out, tt))))
-  pub routes : (κs : Lfts 4) (file board out words : RefT (List ℕ)) (tug start tick goal : ℕ)
-      → route-reads.Asked κs (file, (board, (tug, (start, (tick, (goal, (out, (words, tt))))))))
+  pub routes : (κs : Lfts 4) (file board out words : RefT (List ℕ)) (tug start tick goal dwell : ℕ)
+      → route-reads.Asked κs (file, (board, (tug, (start, (tick, (goal, (dwell, (out, (words, tt)))))))))
   pub audits : (κs : Lfts 3) (file board light : RefT (List ℕ)) → audit-reads.Asked κs (file, (board, (light, tt)))
   pub posts : (κs : Lfts 3) (file board light : RefT (List ℕ)) → post-reads.Asked κs (file, (board, (light, tt)))
   pub closes : (κs : Lfts 2) (file board : RefT (List ℕ)) (h cell first last : ℕ) → close-reads.Asked κs (file, (board, (h, (cell, (first, (last, tt))))))
@@ -132,7 +132,7 @@ pub asks-nothing : AsksNothing
 asks-nothing = record {
   opens = λ κs file board. tt;
   counts = λ κs file board out cell. tt;
-  routes = λ κs file board out words tug start tick goal. tt;
+  routes = λ κs file board out words tug start tick goal dwell. tt;
   audits = λ κs file board light. tt;
   posts = λ κs file board light. tt;
   closes = λ κs file board h cell first last. tt;
@@ -154,11 +154,11 @@ module _ (file : List ℕ) where
       (_, Exported.opens (lifetimes 2) (lend file) (lend (l .board)) (lend file) (lend (onBoardDone l opening .lent .board)) (l .out) (l .words) (onBoardDone l opening .number) (refl, (refl, refl)))
   some l (interval cell) =
       (_, Exported.counts (lifetimes 3) (lend file) (lend (l .board)) (lend (l .out)) (lend file) (lend (l .board)) (lend (intervalDone l cell .lent .out)) cell cell (l .words) (countedWord (countedOf (intervalDone l cell))) (refl, (refl, (refl, refl))))
-  some l (listed (route tug a goal)) =
-      let is : Done = meant file l (listed (route tug a goal)) in (
+  some l (listed (route tug a goal dwell)) =
+      let is : Done = meant file l (listed (route tug a goal dwell)) in (
         _,
         Exported.routes (lifetimes 4) (lend file) (lend (l .board)) (lend (l .out)) (lend (l .words)) (lend file) (lend (l .board)) (lend (is .lent .out)) (lend (is .lent .words))
-            tug (a .state) (a .tick) goal tug (a .state) (a .tick) goal (grantedWord (grantedOf is)) (refl, (refl, (refl, (refl, refl)))),
+            tug (a .state) (a .tick) goal dwell tug (a .state) (a .tick) goal dwell (grantedWord (grantedOf is)) (refl, (refl, (refl, (refl, refl)))),
       )
   some l (listed (audit light)) =
       (_, Exported.audits (lifetimes 3) (lend file) (lend (l .board)) (lend light) (lend file) (lend (l .board)) (lend light) (l .out) (l .words) (onBoardDone l (listed (audit light)) .number) (refl, (refl, (refl, refl))))

@@ -33,16 +33,17 @@ pub extern "C" fn dispatch_route(
     start: u16,
     tick: u16,
     goal: u16,
+    dwell: u16,
     out: &mut [u8],
     work: &mut [u32],
 ) -> u64
-    ensures { λ r. ⌜ r ≡ grantedWord (grantedOf (meant (now (file .entry)) (lends (now (board .entry)) (now (out .entry)) (now (work .entry))) (listed (route tug (node start tick) goal)))) ⌝ }
-    ensures { λ _. ⌜ now (out .exit) ≡ meant (now (file .entry)) (lends (now (board .entry)) (now (out .entry)) (now (work .entry))) (listed (route tug (node start tick) goal)) .lent .out ⌝ }
-    ensures { λ _. ⌜ now (work .exit) ≡ meant (now (file .entry)) (lends (now (board .entry)) (now (out .entry)) (now (work .entry))) (listed (route tug (node start tick) goal)) .lent .words ⌝ }
+    ensures { λ r. ⌜ r ≡ grantedWord (grantedOf (meant (now (file .entry)) (lends (now (board .entry)) (now (out .entry)) (now (work .entry))) (listed (route tug (node start tick) goal dwell)))) ⌝ }
+    ensures { λ _. ⌜ now (out .exit) ≡ meant (now (file .entry)) (lends (now (board .entry)) (now (out .entry)) (now (work .entry))) (listed (route tug (node start tick) goal dwell)) .lent .out ⌝ }
+    ensures { λ _. ⌜ now (work .exit) ≡ meant (now (file .entry)) (lends (now (board .entry)) (now (out .entry)) (now (work .entry))) (listed (route tug (node start tick) goal dwell)) .lent .words ⌝ }
     ensures { λ _. ⌜ now (file .exit) ≡ now (file .entry) ⌝ }
     ensures { λ _. ⌜ now (board .exit) ≡ now (board .entry) ⌝ }
 {
-    answers_c::granted_word(dispatch::route(file, board, tug, start, tick, goal, out, work))
+    answers_c::granted_word(dispatch::route(file, board, tug, start, tick, goal, dwell, out, work))
 }
 
 #[no_mangle]

@@ -11,7 +11,7 @@ pub const WAIT_TAG: u8 = 17;
 pub const MOVE_TAG: u8 = 18;
 
 // The value of the head's field, and of a step's.
-pub const HEAD_SIZE: usize = 13;
+pub const HEAD_SIZE: usize = 15;
 
 pub const STEP_SIZE: usize = 2;
 
@@ -21,7 +21,7 @@ pub const FIRST_STEP: usize = FIELD_HEADER + HEAD_SIZE;
 pub const STEP_FIELD: usize = FIELD_HEADER + STEP_SIZE;
 
 // The bytes that a light has at most.
-pub const LIGHT_LIMIT: usize = 5016;
+pub const LIGHT_LIMIT: usize = 5018;
 
 // The numbers of a light's head.
 pub struct Head {
@@ -31,6 +31,7 @@ pub struct Head {
     pub tick: u16,
     pub goal: u16,
     pub arrival: u16,
+    pub dwell: u16,
 }
 
 // The bytes of a light with so many steps, and so the place behind them.

@@ -54,6 +54,8 @@ pub fn write_head(out: &mut [u8], head: Head)
         low(head.goal),
         high(head.arrival),
         low(head.arrival),
+        high(head.dwell),
+        low(head.dwell),
     ];
     bytes::copy(&field, out);
 }

@@ -111,23 +111,24 @@ accepted s h =
 -- ---- the head's numbers, by place
 
 module _ (s : List ℕ) (h : isLight s ≡ true) where
-  head-byte : (i : ℕ) → i < 13 → getD (lightHeadOf s .value) i 0 ≡ getD s (3 + i) 0
+  head-byte : (i : ℕ) → i < 15 → getD (lightHeadOf s .value) i 0 ≡ getD s (3 + i) 0
   head-byte i p =
       let a = accepted s h in
       let e = a .size in
       ap (λ (f : Field). getD (f .value) i 0) (a .head) ∙ value-byte s 0 i (omega arith)
 
-  head-u16 : (i : ℕ) → i < 12 → u16At (lightHeadOf s .value) i ≡ u16At s (3 + i)
+  head-u16 : (i : ℕ) → i < 14 → u16At (lightHeadOf s .value) i ≡ u16At s (3 + i)
   head-u16 i p =
       let e : 3 + (i + 1) ≡ 3 + i + 1 = omega arith in
       rw (head-byte i (omega arith), head-byte (i + 1) (omega arith), e)
 
-  pub head-numbers : (at high low tug start tick goal arrival : ℕ) → at ≡ 3 → high ≡ u16At s at → low ≡ u16At s (at + 2)
+  pub head-numbers : (at high low tug start tick goal arrival dwell : ℕ) → at ≡ 3 → high ≡ u16At s at → low ≡ u16At s (at + 2)
       → tug ≡ getD s (at + 4) 0 → start ≡ u16At s (at + 5) → tick ≡ u16At s (at + 7) → goal ≡ u16At s (at + 9) → arrival ≡ u16At s (at + 11)
-      → record { edition = high * 65536 + low; tug = tug; start = start; tick = tick; goal = goal; arrival = arrival } ≡ headOf (lightOf s)
+      → dwell ≡ u16At s (at + 13)
+      → record { edition = high * 65536 + low; tug = tug; start = start; tick = tick; goal = goal; arrival = arrival; dwell = dwell } ≡ headOf (lightOf s)
   unfolding lightOf
-  head-numbers at high low tug start tick goal arrival p e₀ e₁ e₂ e₃ e₄ e₅ e₆ =
-      rw (e₀, e₁, e₂, e₃, e₄, e₅, e₆, p)
+  head-numbers at high low tug start tick goal arrival dwell p e₀ e₁ e₂ e₃ e₄ e₅ e₆ e₇ =
+      rw (e₀, e₁, e₂, e₃, e₄, e₅, e₆, e₇, p)
       (sym (rw (
         head-byte 4 (omega arith),
         head-u16 0 (omega arith),
@@ -136,4 +137,5 @@ module _ (s : List ℕ) (h : isLight s ≡ true) where
         head-u16 7 (omega arith),
         head-u16 9 (omega arith),
         head-u16 11 (omega arith),
+        head-u16 13 (omega arith),
       )))

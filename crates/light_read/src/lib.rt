@@ -62,5 +62,6 @@ pub fn read_head(s: &[u8]) -> Head
         tick: fields::u16_at(s, at + 7),
         goal: fields::u16_at(s, at + 9),
         arrival: fields::u16_at(s, at + 11),
+        dwell: fields::u16_at(s, at + 13),
     }
 }

@@ -118,7 +118,7 @@ accepted-answer a n e = rw e
 
 pub call-rise : (site : Site) (v : View) (room : Room) (c : Call) → RiseFrom 7 (callRefusals site v room c)
 unfolding routeRefusals lightRefusals closeRefusals withdrawRefusals
-call-rise site v room (route tug a goal) = (omega arith, (omega arith, (omega arith, (omega arith, (omega arith, (omega arith, tt))))))
+call-rise site v room (route tug a goal dwell) = (omega arith, (omega arith, (omega arith, (omega arith, (omega arith, (omega arith, tt))))))
 call-rise site v room (audit light) = (omega arith, (omega arith, (omega arith, (omega arith, (omega arith, (omega arith, (omega arith, (omega arith, tt))))))))
 call-rise site v room (post light) = (omega arith, (omega arith, (omega arith, (omega arith, (omega arith, (omega arith, (omega arith, (omega arith, tt))))))))
 call-rise site v room (close h cell first last) = (omega arith, (omega arith, (omega arith, (omega arith, (omega arith, tt)))))

@@ -15,7 +15,7 @@ use Rattle.meaning.proofs.DemandLaws.{only-routes}
 abbrev pub BoardCall : PublicCall → Type 0
 BoardCall opening = Unit {0}
 BoardCall (interval cell) = ⊥
-BoardCall (listed (route tug a goal)) = ⊥
+BoardCall (listed (route tug a goal dwell)) = ⊥
 BoardCall (listed (audit light)) = Unit {0}
 BoardCall (listed (post light)) = Unit {0}
 BoardCall (listed (close h cell first last)) = Unit {0}
@@ -45,14 +45,14 @@ module _ (file board out words : List ℕ) where
   board-accepted site (listed (withdraw h)) b = refl
 
   not-18 : (q : PublicCall) → BoardCall q → (l : Lent) (n : ℕ) → lowest (refusals file l q) ≡ n → n ≡ 18 → ⊥
-  not-18 q b l n e z = only-routes file l q (meant-number file l q ∙ e ∙ z) (λ tug a goal same. no-route q b tug a goal same)
+  not-18 q b l n e z = only-routes file l q (meant-number file l q ∙ e ∙ z) (λ tug a goal dwell same. no-route q b tug a goal dwell same)
     where
-      no-route : (k : PublicCall) → BoardCall k → (tug : ℕ) (a : Node) (goal : ℕ) → k ≡ listed (route tug a goal) → ⊥
-      no-route opening b tug a goal w = let y : _≡_ {A = ℕ} 0 1 = cc in omega arith
-      no-route (listed (audit light)) b tug a goal w = let y : _≡_ {A = ℕ} 0 1 = cc in omega arith
-      no-route (listed (post light)) b tug a goal w = let y : _≡_ {A = ℕ} 0 1 = cc in omega arith
-      no-route (listed (close h cell first last)) b tug a goal w = let y : _≡_ {A = ℕ} 0 1 = cc in omega arith
-      no-route (listed (withdraw h)) b tug a goal w = let y : _≡_ {A = ℕ} 0 1 = cc in omega arith
+      no-route : (k : PublicCall) → BoardCall k → (tug : ℕ) (a : Node) (goal dwell : ℕ) → k ≡ listed (route tug a goal dwell) → ⊥
+      no-route opening b tug a goal dwell w = let y : _≡_ {A = ℕ} 0 1 = cc in omega arith
+      no-route (listed (audit light)) b tug a goal dwell w = let y : _≡_ {A = ℕ} 0 1 = cc in omega arith
+      no-route (listed (post light)) b tug a goal dwell w = let y : _≡_ {A = ℕ} 0 1 = cc in omega arith
+      no-route (listed (close h cell first last)) b tug a goal dwell w = let y : _≡_ {A = ℕ} 0 1 = cc in omega arith
+      no-route (listed (withdraw h)) b tug a goal dwell w = let y : _≡_ {A = ℕ} 0 1 = cc in omega arith
 
   -- a call that is lent a board alone, among areas
   pub board-alone : (q : PublicCall) → BoardCall q → meant file (lends board out words) q ≡ record { number = alone q .number; values = []; lent = lends (alone q .lent .board) out words }
@@ -79,8 +79,8 @@ module _ (file board out words : List ℕ) (cell : ℕ) where
   unfolding refusals intervalRefusals acceptedDone
   interval-alone = by-number (lowest (refusals file (lends board out []) (interval cell))) refl
     where
-      no-route : (tug : ℕ) (a : Node) (goal : ℕ) → interval cell ≡ listed (route tug a goal) → ⊥
-      no-route tug a goal w = let y : _≡_ {A = ℕ} 0 1 = cc in omega arith
+      no-route : (tug : ℕ) (a : Node) (goal dwell : ℕ) → interval cell ≡ listed (route tug a goal dwell) → ⊥
+      no-route tug a goal dwell w = let y : _≡_ {A = ℕ} 0 1 = cc in omega arith
 
       by-number : (n : ℕ) → lowest (refusals file (lends board out []) (interval cell)) ≡ n
           → meant file (lends board out words) (interval cell) ≡ record { number = counted .number; values = counted .values; lent = lends board (counted .lent .out) words }

@@ -10,6 +10,7 @@ use lib.Dec.{leb, eqb}
 use borrow.Author.Tests.{leb-true, eqb-true, ne-eqb, not-false, ltb-true, eq-eqb}
 use lib.ListN.{length, getD, take, drop, length-append, length-drop, List·getD-append}
 use lib.Seq.{getD-append-add, getD-drop, take-append-seam}
+use Rattle.meaning.specs.Limits.{dwellLimit}
 use Rattle.meaning.specs.Basics.{every, Each, isNone}
 use Rattle.meaning.specs.Answers.{Refusal, _if_, lowest, Clears, accepted}
 use Rattle.meaning.specs.Site.{Site, standing, siteOf, siteRefusals, readSite}
@@ -17,7 +18,7 @@ use Rattle.meaning.specs.Board.{isTug, boardLength}
 use Rattle.meaning.specs.Plan.{Node}
 use Rattle.meaning.specs.Reach.{Route, findRoute}
 use Rattle.meaning.specs.Light.{encode}
-use Rattle.meaning.specs.Calls.{Call, route, audit, post, close, withdraw, PublicCall, opening, interval, listed, View, bytesView, startNamed, lightRoom, wordsNeeded, routeRefusals, Lent, roomOf, over, withWordsZero, laterRefusals, refusals, grantedLight, changed, Done, acceptedDone, refusedDone, doneBy, meant}
+use Rattle.meaning.specs.Calls.{Call, route, audit, post, close, withdraw, PublicCall, opening, interval, listed, View, bytesView, tripNamed, lightRoom, wordsNeeded, routeRefusals, Lent, roomOf, over, withWordsZero, laterRefusals, refusals, grantedLight, changed, Done, acceptedDone, refusedDone, doneBy, meant}
 use Rattle.meaning.specs.PlainBoard.{Seen, seenBy}
 use Rattle.meaning.specs.Demands.{Written, lightOut}
 use Rattle.meaning.proofs.BasicsLaws.{decide, every-at, each-append}
@@ -44,7 +45,7 @@ accepted-number : (site : Site) (l : Lent) (q : PublicCall) → acceptedDone sit
 unfolding acceptedDone
 accepted-number site l opening = refl
 accepted-number site l (interval cell) = refl
-accepted-number site l (listed (route tug a goal)) = refl
+accepted-number site l (listed (route tug a goal dwell)) = refl
 accepted-number site l (listed (audit light)) = refl
 accepted-number site l (listed (post light)) = refl
 accepted-number site l (listed (close h cell first last)) = refl
@@ -120,11 +121,11 @@ seenOf d = record { number = d .number; values = d .values; light = lightOut d }
 module _ (site : Site) (l : Lent) where
   pub done-seen : (c : Call) (n : ℕ) → seenOf (doneBy site l (listed c) n) ≡ seenBy site (bytesView site (l .board)) c n
   unfolding acceptedDone refusedDone
-  done-seen (route tug a goal) zero =
-      let light : List ℕ = encode (grantedLight site (bytesView site (l .board)) tug a goal) in
+  done-seen (route tug a goal dwell) zero =
+      let light : List ℕ = encode (grantedLight site (bytesView site (l .board)) tug a goal dwell) in
       ap (λ (x : List ℕ). record {
         number = 0;
-        values = length light ∷ grantedLight site (bytesView site (l .board)) tug a goal .arrival ∷ [];
+        values = length light ∷ grantedLight site (bytesView site (l .board)) tug a goal dwell .arrival ∷ [];
         light = x;
       }) (take-append-seam light (drop (length light) (l .out)))
   done-seen (audit light) zero = refl
@@ -140,7 +141,7 @@ module _ (site : Site) (l : Lent) where
 
   pub done-board : (c : Call) (n : ℕ) → doneBy site l (listed c) n .lent .board ≡ boardBy c n
   unfolding acceptedDone refusedDone changed
-  done-board (route tug a goal) zero = refl
+  done-board (route tug a goal dwell) zero = refl
   done-board (audit light) zero = refl
   done-board (post light) zero = refl
   done-board (close h cell first last) zero = refl
@@ -154,27 +155,31 @@ some-route none e = absurd (true≢false e)
 some-route (some r) e = (r, refl)
 
 -- what route names is of the site
-module _ (site : Site) (a : Node) (goal : ℕ) (h : startNamed site a goal ≡ true) where
+module _ (site : Site) (a : Node) (goal dwell : ℕ) (h : tripNamed site a goal dwell ≡ true) where
   pub named-start : a .state < length (site .states)
-  unfolding startNamed
+  unfolding tripNamed
   named-start = ltb-true _ _ (every-at _ h 0)
 
   pub named-tick : a .tick ≤ site .horizon
-  unfolding startNamed
+  unfolding tripNamed
   named-tick = leb-true _ _ (every-at _ h 1)
 
   pub named-goal : goal < length (site .states)
-  unfolding startNamed
+  unfolding tripNamed
   named-goal = ltb-true _ _ (every-at _ h 2)
 
-pub record PassesTo14 (site : Site) (l : Lent) (tug : ℕ) (a : Node) (goal : ℕ) : Type 0 where
+  pub named-dwell : dwell ≤ dwellLimit
+  unfolding tripNamed
+  named-dwell = leb-true _ _ (every-at _ h 3)
+
+pub record PassesTo14 (site : Site) (l : Lent) (tug : ℕ) (a : Node) (goal dwell : ℕ) : Type 0 where
   pub is-tug : isTug tug ≡ true
-  pub named : startNamed site a goal ≡ true
+  pub named : tripNamed site a goal dwell ≡ true
   pub goal-stands : standing site goal ≡ true
   pub light-room : lightRoom site ≤ length (l .out)
   pub words-room : wordsNeeded site ≤ length (l .words)
 
-module _ (file : List ℕ) (l : Lent) (tug : ℕ) (a : Node) (goal : ℕ) where
+module _ (file : List ℕ) (l : Lent) (tug : ℕ) (a : Node) (goal dwell : ℕ) where
   abbrev site : Site
   site = siteOf file
 
@@ -182,10 +187,10 @@ module _ (file : List ℕ) (l : Lent) (tug : ℕ) (a : Node) (goal : ℕ) where
   v = bytesView site (l .board)
 
   abbrev call : PublicCall
-  call = listed (route tug a goal)
+  call = listed (route tug a goal dwell)
 
-  facts : (P : Refusal → Type 0) → ((r : Refusal) → r .number ≤ 14 → P r → Passed r) → Each P (routeRefusals site v (roomOf l) tug a goal)
-      → PassesTo14 site l tug a goal
+  facts : (P : Refusal → Type 0) → ((r : Refusal) → r .number ≤ 14 → P r → Passed r) → Each P (routeRefusals site v (roomOf l) tug a goal dwell)
+      → PassesTo14 site l tug a goal dwell
   unfolding routeRefusals
   facts P pass (h9, (h10, (h11, (h12, (h14, rest))))) =
       let fit : every (leb (lightRoom site) (length (l .out)) ∷ leb (wordsNeeded site) (length (l .words)) ∷ []) ≡ true = not-false _ (pass _ (omega arith) h14) in
@@ -197,41 +202,41 @@ module _ (file : List ℕ) (l : Lent) (tug : ℕ) (a : Node) (goal : ℕ) where
         words-room = leb-true _ _ (every-at _ fit 1);
       }
 
-  pub passes-to-14 : Clears 14 (refusals file l call) → PassesTo14 site l tug a goal
+  pub passes-to-14 : Clears 14 (refusals file l call) → PassesTo14 site l tug a goal dwell
   passes-to-14 h = facts (λ (r : Refusal). r .number ≤ 14 → r .applies ≡ false) (λ r le p. p le) (parts (λ (r : Refusal). r .number ≤ 14 → r .applies ≡ false) file l call h .later)
 
-  pub refused-to-14 : meant file l call .number ≡ 18 → PassesTo14 site l tug a goal
+  pub refused-to-14 : meant file l call .number ≡ 18 → PassesTo14 site l tug a goal dwell
   refused-to-14 e =
       facts (λ (r : Refusal). r .number < 18 → r .applies ≡ false) (λ r le p. p (omega arith))
       (parts (λ (r : Refusal). r .number < 18 → r .applies ≡ false) file l call
       (rise-before 0 (refusals file l call) (all-rise file l call) 18 (sym (meant-number file l call) ∙ e)) .later)
 
-  pub accepted-to-14 : meant file l call .number ≡ 0 → PassesTo14 site l tug a goal
+  pub accepted-to-14 : meant file l call .number ≡ 0 → PassesTo14 site l tug a goal dwell
   accepted-to-14 e = facts Passed (λ r le p. p) (accepted-parts file l call e .later)
 
   -- then the search answers
-  search-number : Clears 14 (refusals file l call) → lowest (refusals file l call) ≡ lowest (18 if isNone (findRoute site (v .free) a goal) ∷ [])
+  search-number : Clears 14 (refusals file l call) → lowest (refusals file l call) ≡ lowest (18 if isNone (findRoute site (v .free) a goal dwell) ∷ [])
   unfolding refusals routeRefusals siteRefusals
   search-number (h1, (h2, (h3, (h4, (h5, (h6, (h7, (h9, (h10, (h11, (h12, (h14, rest)))))))))))) =
       lowest-append (siteRefusals file ++ (7 if not (eqb (length (l .board)) (boardLength site)) ∷ before-18))
-      (18 if isNone (findRoute site (v .free) a goal) ∷ []) (
+      (18 if isNone (findRoute site (v .free) a goal dwell) ∷ []) (
         h1 (omega arith),
         (h2 (omega arith), (h3 (omega arith), (h4 (omega arith), (h5 (omega arith), (h6 (omega arith), (h7 (omega arith), (h9 (omega arith), (h10 (omega arith), (h11 (omega arith), (h12 (omega arith), (h14 (omega arith), tt))))))))))),
       )
     where
       before-18 : List Refusal
-      before-18 = take 5 (routeRefusals site v (roomOf l) tug a goal)
+      before-18 = take 5 (routeRefusals site v (roomOf l) tug a goal dwell)
 
   -- found: the call is granted
-  pub search-found : Clears 14 (refusals file l call) → isNone (findRoute site (v .free) a goal) ≡ false → meant file l call .number ≡ 0
+  pub search-found : Clears 14 (refusals file l call) → isNone (findRoute site (v .free) a goal dwell) ≡ false → meant file l call .number ≡ 0
   search-found h e = meant-number file l call ∙ search-number h ∙ lowest-miss _ [] e ∙ lowest-clear [] tt
 
-  pub search-none : Clears 14 (refusals file l call) → isNone (findRoute site (v .free) a goal) ≡ true → meant file l call .number ≡ 18
+  pub search-none : Clears 14 (refusals file l call) → isNone (findRoute site (v .free) a goal dwell) ≡ true → meant file l call .number ≡ 18
   search-none h e = meant-number file l call ∙ search-number h ∙ lowest-hit _ [] e
 
   -- granted: a route was found
-  pub granted-found : meant file l call .number ≡ 0 → (r : Route) × (findRoute site (v .free) a goal ≡ some r)
+  pub granted-found : meant file l call .number ≡ 0 → (r : Route) × (findRoute site (v .free) a goal dwell ≡ some r)
   unfolding routeRefusals
   granted-found e =
       let (h9, (h10, (h11, (h12, (h14, (h18, rest)))))) = accepted-parts file l call e .later in
-      some-route (findRoute site (v .free) a goal) h18
+      some-route (findRoute site (v .free) a goal dwell) h18

@@ -37,7 +37,7 @@ long-value light f h =
     rw (
       other-size f 32 6 (λ e. omega arith),
       other-size f 33 1 (λ e. omega arith),
-      other-size f 34 7 (λ e. omega arith),
+      other-size f 34 9 (λ e. omega arith),
       other-size f 35 0 (λ e. omega arith),
     )
 
@@ -133,10 +133,16 @@ calls light f c bytes e =
     (u16-below v bytes 2, u16-below v bytes 4, sym (field-is f 32 _ t (list-of v 6 n ∙ sym (ap₂ (λ (x y : List ℕ). getD v 0 0 ∷ getD v 1 0 ∷ (x ++ y)) (put16-at v bytes 2) (put16-at v bytes 4)))))))
     (λ h. decide (isField f 33 1)
     (λ k. by (withdraw (getD v 0 0)) (simp (h, k) at e) (let (t, n) = is-field f 33 1 k in sym (field-is f 33 _ t (list-of v 1 n))))
-    (λ k. decide (isField f 34 7)
-    (λ m. by (route (getD v 0 0) (record { state = u16At v 1; tick = u16At v 3 }) (u16At v 5)) (simp (h, k, m) at e)
-    (let (t, n) = is-field f 34 7 m in
-    (u16-below v bytes 1, u16-below v bytes 3, u16-below v bytes 5, sym (field-is f 34 _ t (list-of v 7 n ∙ sym (ap₂ (λ (x y : List ℕ). getD v 0 0 ∷ (x ++ y)) (put16-at v bytes 1) (ap₂ (λ (x y : List ℕ). x ++ y) (put16-at v bytes 3) (put16-at v bytes 5))))))))
+    (λ k. decide (isField f 34 9)
+    (λ m. by (route (getD v 0 0) (record { state = u16At v 1; tick = u16At v 3 }) (u16At v 5) (u16At v 7)) (simp (h, k, m) at e)
+    (let (t, n) = is-field f 34 9 m in (
+      u16-below v bytes 1,
+      u16-below v bytes 3,
+      u16-below v bytes 5,
+      u16-below v bytes 7,
+      sym (field-is f 34 _ t (list-of v 9 n ∙ sym (ap₂ (λ (x y : List ℕ). getD v 0 0 ∷ (x ++ y)) (put16-at v bytes 1)
+          (ap₂ (λ (x y : List ℕ). x ++ y) (put16-at v bytes 3) (ap₂ (λ (x y : List ℕ). x ++ y) (put16-at v bytes 5) (put16-at v bytes 7)))))),
+    )))
     (λ m. decide (isField f 35 0)
     (λ p. by (post light) (simp (h, k, m, p) at e) (let (t, n) = is-field f 35 0 p in (refl, sym (field-is f 35 _ t (list-of v 0 n)))))
     (λ p. absurd (let z : none ≡ some c = simp (h, k, m, p) at e in let y : _≡_ {A = ℕ} 0 1 = cc in omega arith)))))
@@ -151,13 +157,13 @@ pub all-calls : (light : List ℕ) (f : Field) (c : Call) → ScriptField light 
 unfolding callOf
 all-calls light f (close h cell first last) (lo, hi, e) = rw (e, u16-back first lo, u16-back last hi) refl
 all-calls light f (withdraw h) e = rw e refl
-all-calls light f (route tug a goal) (s, t, g, e) = rw (e, u16-back (a .state) s, u16-back (a .tick) t, u16-back goal g) refl
+all-calls light f (route tug a goal dwell) (s, t, g, w, e) = rw (e, u16-back (a .state) s, u16-back (a .tick) t, u16-back goal g, u16-back dwell w) refl
 all-calls light f (post granted) (same, e) = rw (e, same) refl
 
 -- ---- a call that grants nothing
 
 pub nothing-shown : (file : List ℕ) (d : Day) (c : Call) (n : ℕ) → dayDone file d c .number ≡ n
-    → ((tug : ℕ) (a : Node) (goal : ℕ) → c ≡ route tug a goal → dayDone file d c .number ≡ 0 → ⊥) → dayDone file d c .values ≡ []
+    → ((tug : ℕ) (a : Node) (goal dwell : ℕ) → c ≡ route tug a goal dwell → dayDone file d c .number ≡ 0 → ⊥) → dayDone file d c .values ≡ []
 unfolding dayDone acceptedDone refusedDone
 nothing-shown file d c n e none-granted = by-number n e
   where
@@ -165,7 +171,7 @@ nothing-shown file d c n e none-granted = by-number n e
     l = lends (d .board) (replicate dayArea 0) (replicate dayWords 0)
 
     by-call : (k : Call) → c ≡ k → dayDone file d c .number ≡ 0 → acceptedDone (siteOf file) l (listed k) .values ≡ []
-    by-call (route tug a goal) same z = absurd (none-granted tug a goal same z)
+    by-call (route tug a goal dwell) same z = absurd (none-granted tug a goal dwell same z)
     by-call (audit light) same z = refl
     by-call (post light) same z = refl
     by-call (close h cell first last) same z = refl
@@ -177,7 +183,7 @@ nothing-shown file d c n e none-granted = by-number n e
 
 -- ---- the whole day
 
-pub short-pieces : (s : List ℕ) → length (piece s) ≤ 10
+pub short-pieces : (s : List ℕ) → length (piece s) ≤ 12
 unfolding wanted
 short-pieces s =
     let part = length-take (3 + wanted s) s in

@@ -140,28 +140,28 @@ module _ (file : List ℕ) (d : Day) (c : Call) where
     other : (IsRoute c → done .number ≡ 0 → ⊥) → done .values ≡ [] → Outcome
 
   not-granted : (IsRoute c → done .number ≡ 0 → ⊥) → Outcome
-  not-granted never = Outcome.other never (day.nothing-shown file d c (done .number) refl (λ tug a goal same z. never (tug, a, goal, same) z))
+  not-granted never = Outcome.other never (day.nothing-shown file d c (done .number) refl (λ tug a goal dwell same z. never (tug, a, goal, dwell, same) z))
 
   not-route : (IsRoute c → ⊥) → Outcome
   not-route never = not-granted (λ is z. never is)
 
-  route-outcome : (tug : ℕ) (a : Node) (goal : ℕ) → c ≡ route tug a goal → (n : ℕ) → done .number ≡ n → Outcome
+  route-outcome : (tug : ℕ) (a : Node) (goal dwell : ℕ) → c ≡ route tug a goal dwell → (n : ℕ) → done .number ≡ n → Outcome
   unfolding dayDone acceptedDone
-  route-outcome tug a goal same zero z =
+  route-outcome tug a goal dwell same zero z =
       let l : Lent = lends (d .board) (replicate dayArea 0) (replicate dayWords 0) in
       let is : done ≡ acceptedDone (siteOf file) l (listed c) = meant-accepted file l (listed c) z in
-      Outcome.granted _ _ (tug, a, goal, same) z (ap (λ (x : Done). x .values) is ∙ ap (λ (k : Call). acceptedDone (siteOf file) l (listed k) .values) same)
-  route-outcome tug a goal same (suc n) e = not-granted (λ is z. (let no : suc n ≡ 0 = sym e ∙ z in omega arith))
+      Outcome.granted _ _ (tug, a, goal, dwell, same) z (ap (λ (x : Done). x .values) is ∙ ap (λ (k : Call). acceptedDone (siteOf file) l (listed k) .values) same)
+  route-outcome tug a goal dwell same (suc n) e = not-granted (λ is z. (let no : suc n ≡ 0 = sym e ∙ z in omega arith))
 
   outcome : Outcome
   outcome = by-call c refl
     where
       by-call : (k : Call) → c ≡ k → Outcome
-      by-call (route tug a goal) same = route-outcome tug a goal same (done .number) refl
-      by-call (audit light) same = not-route (λ (tug, a, goal, is). (let y : _≡_ {A = ℕ} 0 1 = cc in omega arith))
-      by-call (post light) same = not-route (λ (tug, a, goal, is). (let y : _≡_ {A = ℕ} 0 1 = cc in omega arith))
-      by-call (close h cell first last) same = not-route (λ (tug, a, goal, is). (let y : _≡_ {A = ℕ} 0 1 = cc in omega arith))
-      by-call (withdraw h) same = not-route (λ (tug, a, goal, is). (let y : _≡_ {A = ℕ} 0 1 = cc in omega arith))
+      by-call (route tug a goal dwell) same = route-outcome tug a goal dwell same (done .number) refl
+      by-call (audit light) same = not-route (λ (tug, a, goal, dwell, is). (let y : _≡_ {A = ℕ} 0 1 = cc in omega arith))
+      by-call (post light) same = not-route (λ (tug, a, goal, dwell, is). (let y : _≡_ {A = ℕ} 0 1 = cc in omega arith))
+      by-call (close h cell first last) same = not-route (λ (tug, a, goal, dwell, is). (let y : _≡_ {A = ℕ} 0 1 = cc in omega arith))
+      by-call (withdraw h) same = not-route (λ (tug, a, goal, dwell, is). (let y : _≡_ {A = ℕ} 0 1 = cc in omega arith))
 
   -- the line of the call, and what is printed after it
   call-prints : (s : List ℕ) (f : Field) (rest text : List ℕ) → Begins s f rest → ScriptField (d .light) c f
@@ -230,7 +230,7 @@ module _ (file : List ℕ) where
   only-prints (Prints.other {board = board} {light = light} {script = s} {rest = rest} {text = text} {f = f} {c = c} begins is never line later) b =
       let d : Day = record { board = board; light = light } in
       let x : Done = words.called file board c in
-      let shown : x .values ≡ [] = day.nothing-shown file d c (x .number) refl (λ tug a goal same z. never (tug, a, goal, same) z) in
+      let shown : x .values ≡ [] = day.nothing-shown file d c (x .number) refl (λ tug a goal dwell same z. never (tug, a, goal, dwell, same) z) in
       let same-line : record { number = x .number; edition = edition (x .lent .board); arrival = 0 } ≡ lineOf x =
       (λ i. record { number = x .number; edition = edition (x .lent .board); arrival = arrivalOf (sym shown i) }) in
       let same-day : record { board = x .lent .board; light = light } ≡ dayAfter d x =

@@ -19,9 +19,9 @@ use Rattle.meaning.specs.Plan.{Node, planPairs}
 use Rattle.meaning.specs.Reach.{Route}
 use Rattle.meaning.specs.Light.{Light, startOf, goalOf, encode, lightOf, decode}
 use Rattle.meaning.specs.Intervals.{Interval, intervals, numbersOf}
-use Rattle.meaning.specs.Calls.{route, audit, post, close, withdraw, PublicCall, opening, interval, listed, bytesView, lightValid, wordsNeeded, lightRefusals, closeRefusals, withdrawRefusals, intervalRefusals, Lent, roomOf, withWordsZero, refusals, routeFound, grantedLight, changed, Done, acceptedDone, meant}
+use Rattle.meaning.specs.Calls.{route, audit, post, close, withdraw, PublicCall, opening, interval, listed, bytesView, lightValid, wordsNeeded, lightRefusals, closeRefusals, withdrawRefusals, intervalRefusals, Lent, roomOf, withWordsZero, refusals, routeFound, grantedLight, lightPairs, changed, Done, acceptedDone, meant}
 use Rattle.meaning.specs.PlainBoard.{hasPair}
-use Rattle.meaning.specs.ValidPlans.{Valid, Holds}
+use Rattle.meaning.specs.ValidPlans.{ValidPlan, Holds}
 use Rattle.meaning.specs.SafeIntervals.{AllSafeIntervals}
 use Rattle.meaning.specs.WellFormed.{WellFormed}
 use Rattle.meaning.specs.Refusals.{bytesSight, CloseAccepted, LightAccepted, WithdrawAccepted, RouteAccepted}
@@ -56,7 +56,7 @@ refused-alone file l q not-0 not-18 = by-number (meant file l q .number) refl
 
 -- only a route has number 18
 pub only-routes : {X : Type 0} (file : List ℕ) (l : Lent) (q : PublicCall) → meant file l q .number ≡ 18
-    → ((tug : ℕ) (a : Node) (goal : ℕ) → q ≡ listed (route tug a goal) → X) → X
+    → ((tug : ℕ) (a : Node) (goal dwell : ℕ) → q ≡ listed (route tug a goal dwell) → X) → X
 unfolding all refusals siteRefusals lightRefusals closeRefusals withdrawRefusals intervalRefusals
 only-routes {X} file l q e on-route = by-call q refl
   where
@@ -69,7 +69,7 @@ only-routes {X} file l q e on-route = by-call q refl
     by-call : (k : PublicCall) → q ≡ k → X
     by-call opening same = below opening same refl
     by-call (interval cell) same = below (interval cell) same refl
-    by-call (listed (route tug a goal)) same = on-route tug a goal same
+    by-call (listed (route tug a goal dwell)) same = on-route tug a goal dwell same
     by-call (listed (audit light)) same = below (listed (audit light)) same refl
     by-call (listed (post light)) same = below (listed (post light)) same refl
     by-call (listed (close h cell first last)) same = below (listed (close h cell first last)) same refl
@@ -175,7 +175,7 @@ module _ (file : List ℕ) (l : Lent) where
   posted : (light : List ℕ) → Bytes (l .board) → meant file l (listed (post light)) .number ≡ 0
       → (x : Light) × (decode light ≡ some x)
       × OnlyBoard l (meant file l (listed (post light)))
-      × Rewritten site (l .board) (meant file l (listed (post light)) .lent .board) (Holds site (startOf x) (x .steps)) (x .tug)
+      × Rewritten site (l .board) (meant file l (listed (post light)) .lent .board) (Holds site (startOf x) (x .steps) (goalOf x) (x .dwell)) (x .tug)
       × LightAccepted site (bytesSight site (l .board)) x
   unfolding acceptedDone changed lightRefusals bytesView
   posted light bytes z =
@@ -187,10 +187,10 @@ module _ (file : List ℕ) (l : Lent) where
         x,
         light-decode light (not-false _ h8),
         (refl, refl, refl),
-        marked site (l .board) (x .tug) (planPairs site (startOf x) (x .steps)) (Holds site (startOf x) (x .steps)) bytes h15 (size q z)
+        marked site (l .board) (x .tug) (lightPairs site x) (Holds site (startOf x) (x .steps) (goalOf x) (x .dwell)) bytes h15 (size q z)
             (light-free site (free site (l .board)) x (not-false _ h17))
-            (λ c t p. held-pairs site (startOf x) (x .steps) c t p)
-            (λ c t e. pairs-held site (startOf x) (x .steps) c t e),
+            (λ c t p. held-pairs site (startOf x) (x .steps) (goalOf x) (x .dwell) c t p)
+            (λ c t e. pairs-held site (startOf x) (x .steps) (goalOf x) (x .dwell) c t e),
         light-accepted site (well q z) (bytesView site (l .board)) (bytesSight site (l .board)) (sees q z) (small bytes) light (accepted-parts file l q z .later),
       )
 
@@ -203,8 +203,8 @@ module _ (file : List ℕ) (l : Lent) where
       rw (meant-by file l (listed (audit light)) (suc n) e ∙ refused-same site l (suc n) (λ z. only-routes file l (listed (audit light)) (meant-number file l (listed (audit light)) ∙ e ∙ z) no-route))
       (refl, refl)
     where
-      no-route : (tug : ℕ) (a : Node) (goal : ℕ) → listed (audit light) ≡ listed (route tug a goal) → ⊥
-      no-route tug a goal w = let y : _≡_ {A = ℕ} 0 1 = cc in omega arith
+      no-route : (tug : ℕ) (a : Node) (goal dwell : ℕ) → listed (audit light) ≡ listed (route tug a goal dwell) → ⊥
+      no-route tug a goal dwell w = let y : _≡_ {A = ℕ} 0 1 = cc in omega arith
 
   audited : (light : List ℕ)
       → (meant file l (listed (audit light)) .values ≡ []) × (meant file l (listed (audit light)) .lent ≡ l)
@@ -214,9 +214,9 @@ module _ (file : List ℕ) (l : Lent) where
       let (nothing, as-before) = audit-by light (lowest (refusals file l (listed (audit light)))) refl in
       (nothing, as-before, meant-number file l (listed (audit light)) ∙ sym (meant-number file l (listed (post light))))
 
-  words-written : (tug : ℕ) (a : Node) (goal : ℕ) → PassesTo14 site l tug a goal
+  words-written : (tug : ℕ) (a : Node) (goal dwell : ℕ) → PassesTo14 site l tug a goal dwell
       → Written (replicate (wordsNeeded site) 0) (l .words) (replicate (wordsNeeded site) 0 ++ drop (length (replicate {A = ℕ} (wordsNeeded site) 0)) (l .words))
-  words-written tug a goal ready =
+  words-written tug a goal dwell ready =
       let count : length (replicate {A = ℕ} (wordsNeeded site) 0) ≡ wordsNeeded site = length-replicate {A = ℕ} (wordsNeeded site) 0 in
       let room : wordsNeeded site ≤ length (l .words) = ready .words-room in
       written (replicate (wordsNeeded site) 0) (l .words) (omega arith)
@@ -227,33 +227,33 @@ module _ (file : List ℕ) (l : Lent) where
   no-plan q e =
       let is : meant file l q ≡ record { number = 18; values = []; lent = withWordsZero site l } =
       meant-by file l q 18 (sym (meant-number file l q) ∙ e) ∙ refused-18 site l in
-      only-routes file l q e (λ tug a goal same.
-      let ready : PassesTo14 site l tug a goal = refused-to-14 file l tug a goal (ap (λ (x : PublicCall). meant file l x .number) (sym same) ∙ e) in
-      rw is (refl, refl, refl, words-written tug a goal ready))
+      only-routes file l q e (λ tug a goal dwell same.
+      let ready : PassesTo14 site l tug a goal dwell = refused-to-14 file l tug a goal dwell (ap (λ (x : PublicCall). meant file l x .number) (sym same) ∙ e) in
+      rw is (refl, refl, refl, words-written tug a goal dwell ready))
 
-  granted : (tug : ℕ) (a : Node) (goal : ℕ) → meant file l (listed (route tug a goal)) .number ≡ 0
-      → (meant file l (listed (route tug a goal)) .lent .board ≡ l .board)
-      × Written (lightOut (meant file l (listed (route tug a goal)))) (l .out) (meant file l (listed (route tug a goal)) .lent .out)
-      × Written (replicate (wordsNeeded site) 0) (l .words) (meant file l (listed (route tug a goal)) .lent .words)
-      × RouteAccepted site (bytesSight site (l .board)) (roomOf l) tug a goal
+  granted : (tug : ℕ) (a : Node) (goal dwell : ℕ) → meant file l (listed (route tug a goal dwell)) .number ≡ 0
+      → (meant file l (listed (route tug a goal dwell)) .lent .board ≡ l .board)
+      × Written (lightOut (meant file l (listed (route tug a goal dwell)))) (l .out) (meant file l (listed (route tug a goal dwell)) .lent .out)
+      × Written (replicate (wordsNeeded site) 0) (l .words) (meant file l (listed (route tug a goal dwell)) .lent .words)
+      × RouteAccepted site (bytesSight site (l .board)) (roomOf l) tug a goal dwell
   unfolding acceptedDone grantedLight bytesView
-  granted tug a goal z =
-      let q : PublicCall = listed (route tug a goal) in
+  granted tug a goal dwell z =
+      let q : PublicCall = listed (route tug a goal dwell) in
       let is : meant file l q ≡ acceptedDone site l q = meant-accepted file l q z in
-      let ready : PassesTo14 site l tug a goal = accepted-to-14 file l tug a goal z in
+      let ready : PassesTo14 site l tug a goal dwell = accepted-to-14 file l tug a goal dwell z in
       let ok : WellFormed site = well q z in
-      let (r, e) = granted-found file l tug a goal z in
-      let x : Light = grantedLight site (bytesView site (l .board)) tug a goal in
+      let (r, e) = granted-found file l tug a goal dwell z in
+      let x : Light = grantedLight site (bytesView site (l .board)) tug a goal dwell in
       let steps : x .steps ≡ r .steps = ap (λ (o : Option Route). routeFound o .steps) e in
-      let fits : length (encode x) ≤ 16 + 5 * site .horizon = search-right .fits site ok (free site (l .board)) a goal r e x steps in
-      let room : 16 + 5 * site .horizon ≤ length (l .out) = ready .light-room in
+      let fits : length (encode x) ≤ 18 + 5 * site .horizon = search-right .fits site ok (free site (l .board)) a goal dwell r e x steps in
+      let room : 18 + 5 * site .horizon ≤ length (l .out) = ready .light-room in
       let front : take (length (encode x)) (encode x ++ drop (length (encode x)) (l .out)) ≡ encode x =
       take-append-seam (encode x) (drop (length (encode x)) (l .out)) in
       rw is (
         refl,
         subst (λ (s : List ℕ). Written s (l .out) (encode x ++ drop (length (encode x)) (l .out))) (sym front) (written (encode x) (l .out) (omega arith)),
-        words-written tug a goal ready,
-        route-accepted site ok (bytesView site (l .board)) (bytesSight site (l .board)) (sees q z) (roomOf l) tug a goal (accepted-parts file l q z .later),
+        words-written tug a goal dwell ready,
+        route-accepted site ok (bytesView site (l .board)) (bytesSight site (l .board)) (sees q z) (roomOf l) tug a goal dwell (accepted-parts file l q z .later),
       )
 
 -- open is accepted on an accepted site and a board of its length
@@ -276,7 +276,7 @@ exact-demand1 desk exact = record {
   posted = λ file l light d bytes may. rw (exact file l (listed (post light)) d may) (λ z. posted file l light bytes z);
   withdrawn = λ file l h d bytes may. rw (exact file l (listed (withdraw h)) d may) (λ z. withdrawn file l h bytes z);
   audited = λ file l light d may. rw (exact file l (listed (audit light)) d may) (audited file l light);
-  granted = λ file l tug a goal d may. rw (exact file l (listed (route tug a goal)) d may) (λ z. granted file l tug a goal z);
+  granted = λ file l tug a goal dwell d may. rw (exact file l (listed (route tug a goal dwell)) d may) (λ z. granted file l tug a goal dwell z);
 }
 
 -- ---- demand 2
@@ -300,7 +300,7 @@ module _ (file : List ℕ) (l : Lent) (light : List ℕ) (clears : Clears 16 (re
     light-is = decode-some light x decoded .1
 
     abbrev Plan : Type 0
-    Plan = Valid (siteOf file) (free (siteOf file) (l .board)) (startOf x) (x .steps) (goalOf x)
+    Plan = ValidPlan (siteOf file) (free (siteOf file) (l .board)) (startOf x) (x .steps) (goalOf x) (x .dwell)
 
     passes-audit : Plan → meant file l (listed (audit light)) .number ≡ 0
     passes-audit v =
@@ -339,19 +339,19 @@ reported file l cell z =
     )
 
 -- routes, over boards of any content
-any-route : (file : List ℕ) (l : Lent) (tug : ℕ) (a : Node) (goal : ℕ) → Bytes (l .board) → Clears 14 (refusals file l (listed (route tug a goal)))
-    → RouteRight (siteOf file) (l .board) tug a goal (meant file l (listed (route tug a goal)))
+any-route : (file : List ℕ) (l : Lent) (tug : ℕ) (a : Node) (goal dwell : ℕ) → Bytes (l .board)
+    → Clears 14 (refusals file l (listed (route tug a goal dwell))) → RouteRight (siteOf file) (l .board) tug a goal dwell (meant file l (listed (route tug a goal dwell)))
 unfolding siteRefusals
-any-route file l tug a goal bytes clears =
-    let (h1, (h2, (h3, (h4, (h5, (h6, rest)))))) = parts (λ (r : Refusal). r .number ≤ 14 → r .applies ≡ false) file l (listed (route tug a goal)) clears .of-site in
+any-route file l tug a goal dwell bytes clears =
+    let (h1, (h2, (h3, (h4, (h5, (h6, rest)))))) = parts (λ (r : Refusal). r .number ≤ 14 → r .applies ≡ false) file l (listed (route tug a goal dwell)) clears .of-site in
     let clear : lowest (siteRefusals file) ≡ 0 =
     lowest-clear (siteRefusals file) (h1 (omega arith), (h2 (omega arith), (h3 (omega arith), (h4 (omega arith), (h5 (omega arith), (h6 (omega arith), tt)))))) in
-    route-right file (read-well file (siteOf file) (site-read file clear)) l (edition-small (l .board) (byte-at (l .board) bytes)) tug a goal clears
+    route-right file (read-well file (siteOf file) (site-read file clear)) l (edition-small (l .board) (byte-at (l .board) bytes)) tug a goal dwell clears
 
 pub exact-demand2 : (desk : Desk) → Exact desk → Demand2 desk
 exact-demand2 desk exact = record {
   intervals = λ file l cell d may. rw (exact file l (interval cell) d may) (λ z. reported file l cell z);
   audit-passes = λ file l light x d may clears decoded v. ap (λ (e : Done). e .number) (exact file l (listed (audit light)) d may) ∙ passes-audit file l light clears x decoded v;
   audit-fails = λ file l light x d may clears decoded v. ap (λ (e : Done). e .number) (exact file l (listed (audit light)) d may) ∙ fails-audit file l light clears x decoded v;
-  routes = λ file l tug a goal d bytes may clears. rw (exact file l (listed (route tug a goal)) d may) (any-route file l tug a goal bytes clears);
+  routes = λ file l tug a goal dwell d bytes may clears. rw (exact file l (listed (route tug a goal dwell)) d may) (any-route file l tug a goal dwell bytes clears);
 }

@@ -1,4 +1,4 @@
--- Handover: at each tick before its arrival a valid plan holds some one cell at that tick and the next.
+-- Handover: at each tick before it has unloaded a valid plan holds some one cell at that tick and the next.
 -- Assumes nothing.
 use Prim.Native.Nat.{ℕ, suc, _+_, _-_, _≤_, _<_}
 use native.Mathlib.Omega.{arith}
@@ -10,14 +10,14 @@ use Rattle.meaning.specs.Basics.{Some, here, there}
 use Rattle.meaning.specs.Site.{Site, Sweep, cellOf, motionAt}
 use Rattle.meaning.specs.Board.{Free}
 use Rattle.meaning.specs.Plan.{Step, Node}
-use Rattle.meaning.specs.ValidPlans.{Leads, ends, waits, moves, Valid, Along, by-wait, by-motion, after-wait, after-motion, Holds, on-the-way}
+use Rattle.meaning.specs.ValidPlans.{Leads, ends, waits, moves, ValidPlan, Along, by-wait, by-motion, after-wait, after-motion, Holds, on-the-way, at-goal}
 use Rattle.meaning.specs.WellFormed.{Uses, WellFormed}
 use Rattle.meaning.specs.Laws.{HandoverRight}
 use Rattle.meaning.proofs.BasicsLaws.{decide}
 use Rattle.meaning.proofs.MotionLaws.{good-at}
 
 -- a cell that a sweep uses at an offset, as a cell in use at a tick
-used-at : (start c j t : ℕ) → start + j ≡ t → {ws : List Sweep} → Uses ws c j
+pub used-at : (start c j t : ℕ) → start + j ≡ t → {ws : List Sweep} → Uses ws c j
     → Some (λ (w : Sweep). (c ≡ w .cell) × (start + w .first ≤ t) × (t ≤ start + w .last)) ws
 used-at start c j t e (here {x = w} (same, lo, hi)) = here {x = w} (sym same, omega arith, omega arith)
 used-at start c j t e (there s) = there (used-at start c j t e s)
@@ -41,15 +41,17 @@ module _ (site : Site) (good : WellFormed site) (f : Free) where
       (c, by-motion (used-at (a .tick) c j t (omega arith) now), by-motion (used-at (a .tick) c (suc j) (suc t) (omega arith) next)))
       (λ q. let (c, now, next) = leads-handed l t (ltb-false _ _ q) hi in (c, after-motion now, after-motion next))
 
-pub plan-handed : (site : Site) → WellFormed site → (f : Free) (a : Node) (ps : List Step) (b : Node) → Valid site f a ps b
-    → (t : ℕ) → a .tick ≤ t → t < b .tick
-    → (c : ℕ) × Holds site a ps c t × Holds site a ps c (suc t)
-plan-handed site good f a ps b v t lo hi =
-    let (c, now, next) = leads-handed site good f (v .leads) t lo hi in (c, on-the-way now, on-the-way next)
+pub plan-handed : (site : Site) → WellFormed site → (f : Free) (a : Node) (ps : List Step) (b : Node) (dwell : ℕ) → ValidPlan site f a ps b dwell
+    → (t : ℕ) → a .tick ≤ t → t < b .tick + dwell
+    → (c : ℕ) × Holds site a ps b dwell c t × Holds site a ps b dwell c (suc t)
+plan-handed site good f a ps b dwell v t lo hi =
+    decide (ltb t (b .tick))
+    (λ q. let (c, now, next) = leads-handed site good f (v .valid .leads) t lo (ltb-true _ _ q) in (c, on-the-way now, on-the-way next))
+    (λ q. let late : b .tick ≤ t = ltb-false _ _ q in (cellOf site (b .state), at-goal refl late (omega arith), at-goal refl (omega arith) hi))
 
 pub handover-right : HandoverRight
 handover-right = record {
   handed = plan-handed;
-  no-swap = λ site good f a d ps qs b v apart t lo hi enters.
-      let (c, now, next) = plan-handed site good f a ps b v t lo hi in apart c t now (enters c next);
+  no-swap = λ site good f a d ps qs b e dwell other v apart t lo hi enters.
+      let (c, now, next) = plan-handed site good f a ps b dwell v t lo hi in apart c t now (enters c next);
 }

@@ -7,6 +7,7 @@ pub mod SiteFieldsLaws
 pub mod SiteLaws
 pub mod PlanLaws
 pub mod HandoverLaws
+pub mod DwellLaws
 pub mod IntervalLaws
 pub mod LightLaws
 pub mod ReachLaws

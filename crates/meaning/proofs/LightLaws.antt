@@ -9,7 +9,7 @@ use mathlib.Core.List.{List, [], _∷_, _++_, map}
 use lib.Dec.{eqb}
 use lib.ListN.{length, getD, drop}
 use borrow.Author.Tests.{le-leb, leb-true, eqb-true}
-use Rattle.meaning.specs.Limits.{lightLimit, lightTag, waitTag, moveTag, lightHeadSize, stepSize}
+use Rattle.meaning.specs.Limits.{lightLimit, lightTag, waitTag, moveTag, fieldHeader, lightHeadSize, stepSize}
 use Rattle.meaning.specs.Basics.{Each, Bytes, isZero, u16At, u32At, put16, put32}
 use Rattle.meaning.specs.Fields.{Field, noField, fields, complete, listed, fieldsBytes}
 use Rattle.meaning.specs.Plan.{Step, wait, move}
@@ -28,7 +28,7 @@ length-steps [] = refl
 length-steps (wait n ∷ ps) = let ih = length-steps ps in omega arith
 length-steps (move m ∷ ps) = let ih = length-steps ps in omega arith
 
-pub length-encode : (l : Light) → length (encode l) ≡ 16 + 5 * length (l .steps)
+pub length-encode : (l : Light) → length (encode l) ≡ (fieldHeader + lightHeadSize) + (fieldHeader + stepSize) * length (l .steps)
 unfolding encode
 length-encode l = let e = length-steps (l .steps) in omega arith
 
@@ -77,6 +77,7 @@ light-of l k =
       u16-back (l .tick) (k .tick-fits),
       u16-back (l .goal) (k .goal-fits),
       u16-back (l .arrival) (k .arrival-fits),
+      u16-back (l .dwell) (k .dwell-fits),
     )
 
 pub decode-encode : (l : Light) → KeepsLayout l → decode (encode l) ≡ some l
@@ -167,11 +168,11 @@ join : {a b c d : List ℕ} → a ≡ b → c ≡ d → a ++ c ≡ b ++ d
 join p q = ap₂ {A = List ℕ} {B = List ℕ} {C = List ℕ} (λ x y. x ++ y) p q
 
 head-value : (v : List ℕ) → Bytes v → length v ≡ lightHeadSize
-    → v ≡ put32 (u32At v 0) ++ (getD v 4 0 ∷ (put16 (u16At v 5) ++ (put16 (u16At v 7) ++ (put16 (u16At v 9) ++ put16 (u16At v 11)))))
+    → v ≡ put32 (u32At v 0) ++ (getD v 4 0 ∷ (put16 (u16At v 5) ++ (put16 (u16At v 7) ++ (put16 (u16At v 9) ++ (put16 (u16At v 11) ++ put16 (u16At v 13))))))
 head-value v b e =
     let at = byte-at v b in
-    let later = join (put16-at v b 5) (join (put16-at v b 7) (join (put16-at v b 9) (put16-at v b 11))) in
-    list-of v 13 e
+    let later = join (put16-at v b 5) (join (put16-at v b 7) (join (put16-at v b 9) (join (put16-at v b 11) (put16-at v b 13)))) in
+    list-of v lightHeadSize e
     ∙ sym (join (u32-bytes (getD v 0 0) (getD v 1 0) (getD v 2 0) (getD v 3 0) (at 0) (at 1) (at 2) (at 3)) (ap (λ (r : List ℕ). getD v 4 0 ∷ r) later))
 
 -- the first field is there
@@ -204,6 +205,7 @@ light-back bytes b h =
         tick-fits = u16-below v vb 7;
         goal-fits = u16-below v vb 9;
         arrival-fits = u16-below v vb 11;
+        dwell-fits = u16-below v vb 13;
         laid-out = laid;
         short = omega arith;
       },

@@ -13,9 +13,9 @@ use Rattle.meaning.specs.Basics.{Each}
 use Rattle.meaning.specs.Answers.{lowest}
 use Rattle.meaning.specs.Site.{Site, cellOf, siteOf, siteRefusals}
 use Rattle.meaning.specs.Board.{Free, isTug, isClosure, isHolder, boardLength, edition, runTo, allFree}
-use Rattle.meaning.specs.Plan.{planEnd, walkPairs, planPairs}
-use Rattle.meaning.specs.Light.{Light, startOf, lightOf}
-use Rattle.meaning.specs.Calls.{Call, route, audit, post, close, withdraw, opening, listed, View, bytesView, runNamed, isAt, lightValid, lightRefusals, closeRefusals, withdrawRefusals, callRefusals, Lent, roomOf, refusals, changed, Done, acceptedDone, doneBy, meant}
+use Rattle.meaning.specs.Plan.{planEnd, planPairs}
+use Rattle.meaning.specs.Light.{Light, startOf, goalOf, lightOf}
+use Rattle.meaning.specs.Calls.{Call, route, audit, post, close, withdraw, opening, listed, View, bytesView, runNamed, isAt, lightValid, lightRefusals, closeRefusals, withdrawRefusals, callRefusals, Lent, roomOf, refusals, lightPairs, changed, Done, acceptedDone, doneBy, meant}
 use Rattle.meaning.specs.PlainBoard.{Plain, emptyPlain, plainFree, plainView, plainChanged, seenBy, Seen, plainNumber, plainSeen, plainBy, plainAfter}
 use Rattle.meaning.specs.WellFormed.{WellFormed}
 use Rattle.meaning.specs.Demands.{Desk, Exact, Turn, Follows, boardAfter, seen, plainAfterAll, plainSeenAll, RouteRight, RouteTurn, ListRight, Demand3}
@@ -39,12 +39,12 @@ closure-holder h e = let (lo, hi) = holders-right .closures h e in holders-right
 -- ---- an accepted call keeps the two boards in agreement
 
 -- a light that is valid holds only free pairs
-pub light-free : (site : Site) (f : Free) (x : Light) → lightValid site f x ≡ true → allFree f (planPairs site (startOf x) (x .steps)) ≡ true
+pub light-free : (site : Site) (f : Free) (x : Light) → lightValid site f x ≡ true → allFree f (lightPairs site x) ≡ true
 unfolding lightValid
 light-free site f x h =
     options (planEnd site f (startOf x) (x .steps))
-    (λ e. absurd (true≢false (sym h ∙ ap (isAt (x .goal) (x .arrival)) e)))
-    (λ b e. plan-free site f (startOf x) (x .steps) b e)
+    (λ e. absurd (true≢false (sym (every-at _ h 0) ∙ ap (isAt (x .goal) (x .arrival)) e)))
+    (λ b e. plan-free site f (startOf x) (x .steps) b (goalOf x) (x .dwell) e (every-at _ h 1))
 
 module _ (site : Site) (board : List ℕ) (p : Plain) (agree : Agree site board p) where
   abbrev v : View
@@ -66,8 +66,8 @@ module _ (site : Site) (board : List ℕ) (p : Plain) (agree : Agree site board 
   post-agrees light (h8, (h9, (h10, (h11, (h12, (h15, (h16, (h17, rest)))))))) =
       let x : Light = lightOf light in
       entered site board p agree (not-last h15) (x .tug) (tug-holder (x .tug) (not-false _ h9))
-      (record { cell = cellOf site (x .start); tick = x .tick }) (walkPairs site (x .steps) (startOf x))
-      (subst (λ (f : Free). allFree f (planPairs site (startOf x) (x .steps)) ≡ true) free-of (light-free site (v .free) x (not-false _ h17)))
+      (record { cell = cellOf site (x .start); tick = x .tick }) _
+      (subst (λ (f : Free). allFree f (lightPairs site x) ≡ true) free-of (light-free site (v .free) x (not-false _ h17)))
 
   close-agrees : (h cell first last : ℕ) → Each Passed (closeRefusals site v h cell first last)
       → Agree site (changed site board (close h cell first last)) (plainChanged site p (close h cell first last))
@@ -87,7 +87,7 @@ module _ (site : Site) (board : List ℕ) (p : Plain) (agree : Agree site board 
 
   pub changed-agrees : (l : Lent) (c : Call) → Each Passed (callRefusals site v (roomOf l) c) → Agree site (changed site board c) (plainChanged site p c)
   unfolding changed plainChanged
-  changed-agrees l (route tug a goal) h = agree
+  changed-agrees l (route tug a goal dwell) h = agree
   changed-agrees l (audit light) h = agree
   changed-agrees l (post light) h = post-agrees light h
   changed-agrees l (close k cell first last) h = close-agrees k cell first last h
@@ -154,9 +154,9 @@ module _ (desk : Desk) (exact : Exact desk) (file : List ℕ) (ok : Each Passed 
         answers = ap₂ {B = List Seen} (λ y ys. y ∷ ys) (ap seenOf done-is ∙ call-seen file ok l p now-agree c) (rest .answers);
         agree = rest .agree;
         routes = (
-          λ tug a goal is-route clears.
-              subst (RouteRight (siteOf file) (l .board) tug a goal) (sym (done-is ∙ ap (λ (k : Call). meant file l (listed k)) is-route))
-              (route-right file well l fits tug a goal clears),
+          λ tug a goal dwell is-route clears.
+              subst (RouteRight (siteOf file) (l .board) tug a goal dwell) (sym (done-is ∙ ap (λ (k : Call). meant file l (listed k)) is-route))
+              (route-right file well l fits tug a goal dwell clears),
           rest .routes,
         );
       }

@@ -12,9 +12,9 @@ use borrow.Author.Tests.{leb-true, ltb-true, le-leb, lt-ltb, eq-eqb, eqb-true, e
 use Rattle.meaning.specs.Basics.{all, allFrom, Each, Some, here, there}
 use Rattle.meaning.specs.Site.{Site, Sweep, cellOf, motionAt}
 use Rattle.meaning.specs.Board.{Free, Pair, run, runTo, allFree}
-use Rattle.meaning.specs.Plan.{Step, wait, move, Node, freeFromTo, sweepsFree, allowed, after, walk, startFree, planEnd, sweptPairs, stepPairs, walkPairs, planPairs}
+use Rattle.meaning.specs.Plan.{Step, wait, move, Node, freeFromTo, sweepsFree, allowed, after, walk, startFree, planEnd, canUnload, sweptPairs, stepPairs, walkPairs, planPairs}
 use Rattle.meaning.specs.PlainBoard.{hasPair}
-use Rattle.meaning.specs.ValidPlans.{FreeFromTo, Leads, ends, waits, moves, Valid, Along, by-wait, by-motion, after-wait, after-motion, Holds, at-start, on-the-way}
+use Rattle.meaning.specs.ValidPlans.{FreeFromTo, Leads, ends, waits, moves, Valid, Unloads, Along, by-wait, by-motion, after-wait, after-motion, Holds, at-start, on-the-way, at-goal}
 use Rattle.meaning.specs.Laws.{PlansRight}
 use Rattle.meaning.proofs.BasicsLaws.{every-at, every-nil, every-cons, decide, when-test, when-value, all-nil, all-cons, all-head, all-tail, all-append, allFrom-in, allFrom-true, each-all, all-each, any-here, any-there, any-nil, any-case}
 
@@ -87,6 +87,20 @@ module _ (site : Site) (f : Free) where
       simp (every-cons _ _ (lt-ltb _ _ (v .state-known)) (every-cons _ _ (le-leb _ _ (v .tick-known)) (every-cons _ _ (v .start-free) every-nil)))
       (leads-walk (v .leads))
 
+  -- unloading
+  pub can-unload : (b : Node) (dwell : ℕ) → canUnload site f b dwell ≡ true → Unloads site f b dwell
+  unfolding canUnload
+  can-unload b dwell h = record {
+    dock-free = free-throughout f (cellOf site (b .state)) (b .tick) (b .tick + dwell) (every-at _ h 0);
+    in-time = leb-true _ _ (every-at _ h 1);
+  }
+
+  pub unload-can : (b : Node) (dwell : ℕ) → Unloads site f b dwell → canUnload site f b dwell ≡ true
+  unfolding canUnload
+  unload-can b dwell u =
+      every-cons _ _ (throughout-free f (cellOf site (b .state)) (b .tick) (b .tick + dwell) (u .dock-free))
+      (every-cons _ _ (le-leb _ _ (u .in-time)) every-nil)
+
 -- ---- the pairs of a list
 
 pub has-left : (ps qs : List Pair) (c t : ℕ) → hasPair ps c t ≡ true → hasPair (ps ++ qs) c t ≡ true
@@ -148,6 +162,10 @@ has-sweeps (w ∷ ws) t c x (there s) =
     has-right (runTo (w .cell) (t + w .first) (t + w .last)) (sweptPairs ws t) c x (has-sweeps ws t c x s)
 
 module _ (site : Site) where
+  -- the pairs of unloading at a node
+  abbrev dockPairs : Node → ℕ → List Pair
+  dockPairs b dwell = runTo (cellOf site (b .state)) (b .tick) (b .tick + dwell)
+
   has-along : (ps : List Step) (a : Node) (c t : ℕ) → hasPair (walkPairs site ps a) c t ≡ true → Along site c t a ps
   has-along [] a c t h = absurd (true≢false (sym h ∙ any-nil _))
   has-along (wait n ∷ ps) a c t h =
@@ -172,20 +190,27 @@ module _ (site : Site) where
   along-has {c = c} {t = t} (after-motion {a = a} {m = m} {ps = ps} h) =
       has-right (stepPairs site (move m) a) (walkPairs site ps (after site (move m) a)) c t (along-has h)
 
-  pub pairs-held : (a : Node) (ps : List Step) (c t : ℕ) → hasPair (planPairs site a ps) c t ≡ true → Holds site a ps c t
+  pub pairs-held : (a : Node) (ps : List Step) (b : Node) (dwell c t : ℕ) → hasPair (planPairs site a ps b dwell) c t ≡ true → Holds site a ps b dwell c t
   unfolding planPairs
-  pairs-held a ps c t h =
-      any-case _ (record { cell = cellOf site (a .state); tick = a .tick }) (walkPairs site ps a) h
+  pairs-held a ps b dwell c t h =
+      any-case _ (record { cell = cellOf site (a .state); tick = a .tick }) (walkPairs site ps a ++ dockPairs b dwell) h
       (λ e. at-start (sym (eqb-true _ _ (every-at _ e 0))) (sym (eqb-true _ _ (every-at _ e 1))))
-      (λ e k. on-the-way (has-along ps a c t k))
+      (λ e k. elim (has-append (walkPairs site ps a) (dockPairs b dwell) c t k) [
+        | inl l ↦ on-the-way (has-along ps a c t l)
+        | inr r ↦ let (same, lo, hi) = in-run-to (cellOf site (b .state)) (b .tick) (b .tick + dwell) c t r in at-goal same lo hi
+      ])
 
-  pub held-pairs : (a : Node) (ps : List Step) (c t : ℕ) → Holds site a ps c t → hasPair (planPairs site a ps) c t ≡ true
+  pub held-pairs : (a : Node) (ps : List Step) (b : Node) (dwell c t : ℕ) → Holds site a ps b dwell c t → hasPair (planPairs site a ps b dwell) c t ≡ true
   unfolding planPairs
-  held-pairs a ps c t (at-start same now) =
-      any-here _ (record { cell = cellOf site (a .state); tick = a .tick }) (walkPairs site ps a)
+  held-pairs a ps b dwell c t (at-start same now) =
+      any-here _ (record { cell = cellOf site (a .state); tick = a .tick }) (walkPairs site ps a ++ dockPairs b dwell)
       (every-cons _ _ (eq-eqb (cellOf site (a .state)) c (sym same)) (every-cons _ _ (eq-eqb (a .tick) t (sym now)) every-nil))
-  held-pairs a ps c t (on-the-way h) =
-      any-there _ (record { cell = cellOf site (a .state); tick = a .tick }) (walkPairs site ps a) (along-has h)
+  held-pairs a ps b dwell c t (on-the-way h) =
+      any-there _ (record { cell = cellOf site (a .state); tick = a .tick }) (walkPairs site ps a ++ dockPairs b dwell)
+      (has-left (walkPairs site ps a) (dockPairs b dwell) c t (along-has h))
+  held-pairs a ps b dwell c t (at-goal same lo hi) =
+      any-there _ (record { cell = cellOf site (a .state); tick = a .tick }) (walkPairs site ps a ++ dockPairs b dwell)
+      (has-right (walkPairs site ps a) (dockPairs b dwell) c t (has-run-to (cellOf site (b .state)) (b .tick) (b .tick + dwell) c t same lo hi))
 
 -- ---- the pairs that a valid plan holds are free
 
@@ -218,12 +243,23 @@ module _ (site : Site) (f : Free) where
       (step-free s a (when-test _ rest h))
       (walk-free ps (after site s a) b (when-value (allowed site f s a) rest h))
 
-  pub plan-free : (a : Node) (ps : List Step) (b : Node) → planEnd site f a ps ≡ some b → allFree f (planPairs site a ps) ≡ true
+  dock-free : (b : Node) (dwell : ℕ) → canUnload site f b dwell ≡ true → allFree f (dockPairs site b dwell) ≡ true
+  unfolding canUnload
+  dock-free b dwell h = run-free f (cellOf site (b .state)) (b .tick) (suc (b .tick + dwell) - b .tick) ∙ every-at _ h 0
+
+  pub plan-free : (a : Node) (ps : List Step) (e b : Node) (dwell : ℕ) → planEnd site f a ps ≡ some e → canUnload site f b dwell ≡ true
+      → allFree f (planPairs site a ps b dwell) ≡ true
   unfolding planEnd planPairs startFree
-  plan-free a ps b h =
+  plan-free a ps e b dwell h unloads =
       let starts : startFree site f a ≡ true = when-test _ (walk site f ps a) h in
-      all-cons _ (record { cell = cellOf site (a .state); tick = a .tick }) (walkPairs site ps a) (every-at _ starts 2)
-      (walk-free ps a b (when-value (startFree site f a) (walk site f ps a) h))
+      all-cons _ (record { cell = cellOf site (a .state); tick = a .tick }) (walkPairs site ps a ++ dockPairs site b dwell) (every-at _ starts 2)
+      (all-append _ (walkPairs site ps a) (dockPairs site b dwell)
+      (walk-free ps a e (when-value (startFree site f a) (walk site f ps a) h)) (dock-free b dwell unloads))
 
 pub plans-right : PlansRight
-plans-right = record { walked = plan-valid; all-walked = valid-plan; marked = pairs-held; all-marked = held-pairs }
+plans-right = record {
+  walked = plan-valid;
+  all-walked = valid-plan;
+  marked = pairs-held;
+  all-marked = held-pairs;
+}

@@ -17,9 +17,9 @@ use Rattle.meaning.proofs.BasicsLaws.{and-left, and-right, every-at, ev
 use Rattle.meaning.proofs.MotionLaws.{good-at}
 use Rattle.meaning.specs.Site.{Site, Motion, cellOf, standing, motionAt}
 use Rattle.meaning.specs.Board.{Free}
-use Rattle.meaning.specs.Plan.{Step, wait, move, Node, node as at, allowed, after, walk, startFree, planEnd}
+use Rattle.meaning.specs.Plan.{Step, wait, move, Node, node as at, allowed, after, walk, startFree, planEnd, canUnload}
 use Rattle.meaning.specs.WellFormed.{WellFormed}
-use Rattle.meaning.specs.Reach.{reachedIn, byWait, byMotion, wordBy, word, firstRow, withRow, rowsTo, reachWord, reached, wordIn, waitOne, trace, Route, tracedRoute, routeIn, findRoute}
+use Rattle.meaning.specs.Reach.{reachedIn, byWait, byMotion, wordBy, word, firstRow, withRow, rowsTo, reachWord, reached, wordIn, waitOne, trace, Route, tracedRoute, endsAfter, routeIn, findRoute}
 
 -- ---- the rows
 
@@ -473,37 +473,42 @@ module _ (site : Site) (well : WellFormed site) (f : Free) (a : Node) where
   abbrev ticks : ℕ
   ticks = site .horizon - a .tick
 
-  abbrev there : ℕ → ℕ → Bool
-  there goal k = not (isZero (wordIn (rowsTo site f a ticks) ticks k goal))
+  abbrev there : ℕ → ℕ → ℕ → Bool
+  there goal dwell = endsAfter site f (rowsTo site f a ticks) ticks a goal dwell
 
-  there-reached : (goal k : ℕ) → k ≤ ticks → there goal k ≡ reached site f a k goal
-  there-reached goal k h = ap (λ (w : ℕ). not (isZero w)) (word-row site well f a ticks k goal h)
+  there-reached : (goal dwell k : ℕ) → k ≤ ticks → there goal dwell k ≡ every (reached site f a k goal ∷ canUnload site f (at goal (a .tick + k)) dwell ∷ [])
+  there-reached goal dwell k h =
+      ap (λ (w : ℕ). every (not (isZero w) ∷ canUnload site f (at goal (a .tick + k)) dwell ∷ [])) (word-row site well f a ticks k goal h)
 
   -- what a found route is
-  pub record Arrives (goal : ℕ) (r : Route) : Type 0 where
+  pub record Arrives (goal dwell : ℕ) (r : Route) : Type 0 where
     pub after-start : ℕ
     pub on-tick : r .arrival ≡ a .tick + after-start
     pub in-time : after-start ≤ ticks
     pub here : reached site f a after-start goal ≡ true
-    pub not-before : (j : ℕ) → j < after-start → reached site f a j goal ≡ false
+    pub unloads : canUnload site f (at goal (a .tick + after-start)) dwell ≡ true
+    pub not-before : (j : ℕ) → j < after-start → every (reached site f a j goal ∷ canUnload site f (at goal (a .tick + j)) dwell ∷ []) ≡ false
     pub traced : r .steps ≡ trace site (rowsTo site f a ticks) ticks (suc after-start) after-start goal []
 
-  pub found-arrives : (goal : ℕ) (r : Route) → findRoute site f a goal ≡ some r → Arrives goal r
+  pub found-arrives : (goal dwell : ℕ) (r : Route) → findRoute site f a goal dwell ≡ some r → Arrives goal dwell r
   unfolding findRoute routeIn tracedRoute
-  found-arrives goal r h =
-      options (least (there goal) 0 (suc ticks))
+  found-arrives goal dwell r h =
+      options (least (there goal dwell) 0 (suc ticks))
       (λ q. let z : _≡_ {A = Option Route} none (some r) = simp q at h in absurd (none≢some z))
       (λ k q.
       let found : Route = record { steps = trace site (rowsTo site f a ticks) ticks (suc k) k goal []; arrival = a .tick + k } in
       let z : some found ≡ some r = simp q at h in
-      let range : k < 0 + suc ticks = least-range (there goal) 0 (suc ticks) k q in
+      let range : k < 0 + suc ticks = least-range (there goal dwell) 0 (suc ticks) k q in
       let same : found ≡ r = some-same z in
-      subst (Arrives goal) same (record {
+      let both : every (reached site f a k goal ∷ canUnload site f (at goal (a .tick + k)) dwell ∷ []) ≡ true =
+      sym (there-reached goal dwell k (omega arith)) ∙ least-holds (there goal dwell) 0 (suc ticks) k q in
+      subst (Arrives goal dwell) same (record {
         after-start = k;
         on-tick = refl;
         in-time = omega arith;
-        here = sym (there-reached goal k (omega arith)) ∙ least-holds (there goal) 0 (suc ticks) k q;
-        not-before = λ j lt. sym (there-reached goal j (omega arith)) ∙ least-below (there goal) 0 (suc ticks) k q j (omega arith) lt;
+        here = every-at _ both 0;
+        unloads = every-at _ both 1;
+        not-before = λ j lt. sym (there-reached goal dwell j (omega arith)) ∙ least-below (there goal dwell) 0 (suc ticks) k q j (omega arith) lt;
         traced = refl;
       }))
     where
@@ -514,36 +519,47 @@ module _ (site : Site) (well : WellFormed site) (f : Free) (a : Node) where
       some-same e = cc
 
   -- a granted route's steps are a valid plan to the goal, on the arrival tick
-  pub route-valid : (goal : ℕ) (r : Route) → findRoute site f a goal ≡ some r → planEnd site f a (r .steps) ≡ some (at goal (r .arrival))
+  pub route-valid : (goal dwell : ℕ) (r : Route) → findRoute site f a goal dwell ≡ some r → planEnd site f a (r .steps) ≡ some (at goal (r .arrival))
   unfolding planEnd walk
-  route-valid goal r h =
-      let got : Arrives goal r = found-arrives goal r h in
+  route-valid goal dwell r h =
+      let got : Arrives goal dwell r = found-arrives goal dwell r h in
       let k : ℕ = got .after-start in
       let leads : walk site f (trace site (rowsTo site f a ticks) ticks (suc k) k goal []) a ≡ some (at goal (a .tick + k)) =
       trace-walk site well f a ticks (suc k) k goal [] tt (got .in-time) (omega arith) (got .here) in
       simp (got .traced, got .on-tick, start-of-reached (suc k) k goal (omega arith) (got .here), leads)
 
-  -- no valid plan arrives earlier
-  pub route-earliest : (goal t : ℕ) (r : Route) (ps : List Step) → findRoute site f a goal ≡ some r → planEnd site f a ps ≡ some (at goal t) → r .arrival ≤ t
-  route-earliest goal t r ps h p =
-      let got : Arrives goal r = found-arrives goal r h in
+  -- and the tug can unload there
+  pub route-unloads : (goal dwell : ℕ) (r : Route) → findRoute site f a goal dwell ≡ some r → canUnload site f (at goal (r .arrival)) dwell ≡ true
+  route-unloads goal dwell r h =
+      let got : Arrives goal dwell r = found-arrives goal dwell r h in
+      rw (got .on-tick) (got .unloads)
+
+  -- no valid plan from which it can arrives earlier
+  pub route-earliest : (goal dwell t : ℕ) (r : Route) (ps : List Step) → findRoute site f a goal dwell ≡ some r
+      → planEnd site f a ps ≡ some (at goal t) → canUnload site f (at goal t) dwell ≡ true → r .arrival ≤ t
+  route-earliest goal dwell t r ps h p unloads =
+      let got : Arrives goal dwell r = found-arrives goal dwell r h in
       let (j, same, early, there-too) = plan-reached ps (at goal t) p in
       decide (leb (got .after-start) j)
       (λ e. let le : got .after-start ≤ j = leb-true _ _ e in omega (arith, got .on-tick))
-      (λ e. absurd (true≢false (sym there-too ∙ got .not-before j (leb-false _ _ e))))
+      (λ e. absurd (true≢false (sym (every-cons _ _ there-too (every-cons _ _ (rw same at unloads) every-nil)) ∙ got .not-before j (leb-false _ _ e))))
 
   -- where some valid plan exists, a route is found
-  pub route-exists : (goal t : ℕ) (ps : List Step) → planEnd site f a ps ≡ some (at goal t) → (r : Route) × (findRoute site f a goal ≡ some r)
+  pub route-exists : (goal dwell t : ℕ) (ps : List Step) → planEnd site f a ps ≡ some (at goal t) → canUnload site f (at goal t) dwell ≡ true
+      → (r : Route) × (findRoute site f a goal dwell ≡ some r)
   unfolding findRoute routeIn tracedRoute
-  route-exists goal t ps p =
+  route-exists goal dwell t ps p unloads =
       let (j, same, early, there-too) = plan-reached ps (at goal t) p in
       let in-time : j ≤ ticks = omega arith in
-      let (k, q) = least-found (there goal) 0 (suc ticks) j (there-reached goal j in-time ∙ there-too) (omega arith) (omega arith) in
+      let both : every (reached site f a j goal ∷ canUnload site f (at goal (a .tick + j)) dwell ∷ []) ≡ true =
+      every-cons _ _ there-too (every-cons _ _ (rw same at unloads) every-nil) in
+      let (k, q) = least-found (there goal dwell) 0 (suc ticks) j (there-reached goal dwell j in-time ∙ both) (omega arith) (omega arith) in
       (record { steps = trace site (rowsTo site f a ticks) ticks (suc k) k goal []; arrival = a .tick + k }, simp q)
 
   -- where none is found, no valid plan exists
-  pub route-none : (goal t : ℕ) (ps : List Step) → findRoute site f a goal ≡ none → planEnd site f a ps ≡ some (at goal t) → ⊥
-  route-none goal t ps h p =
-      let (r, e) = route-exists goal t ps p in
+  pub route-none : (goal dwell t : ℕ) (ps : List Step) → findRoute site f a goal dwell ≡ none → planEnd site f a ps ≡ some (at goal t)
+      → canUnload site f (at goal t) dwell ≡ true → ⊥
+  route-none goal dwell t ps h p unloads =
+      let (r, e) = route-exists goal dwell t ps p unloads in
       let z : _≡_ {A = ℕ} 0 1 = cc in
       omega arith

@@ -12,49 +12,54 @@ use lib.ListN.{length, getD}
 use Rattle.meaning.specs.Basics.{every, all, Each, Some, Bytes, isNone}
 use Rattle.meaning.specs.Site.{Site, stateAt}
 use Rattle.meaning.specs.Board.{Free, boardLength, Pair, runTo, allFree}
-use Rattle.meaning.specs.Plan.{Step, wait, move, Node, planEnd, planPairs}
+use Rattle.meaning.specs.Plan.{Step, wait, move, Node, planEnd}
 use Rattle.meaning.specs.Reach.{findRoute}
 use Rattle.meaning.specs.Light.{Light, startOf, goalOf, lightOf, isLight, decode}
-use Rattle.meaning.specs.Calls.{Call, route, audit, post, close, withdraw, PublicCall, opening, interval, listed, View, bytesView, Room, startNamed, runNamed, stepNamed, lightNamed, isAt, lightRoom, wordsNeeded, lightValid, routeRefusals, lightRefusals, closeRefusals, withdrawRefusals, callRefusals, intervalRefusals, Lent, roomOf, laterRefusals}
+use Rattle.meaning.specs.Calls.{Call, route, audit, post, close, withdraw, PublicCall, opening, interval, listed, View, bytesView, Room, tripNamed, runNamed, stepNamed, lightNamed, isAt, lightRoom, wordsNeeded, lightValid, routeRefusals, lightRefusals, closeRefusals, withdrawRefusals, callRefusals, intervalRefusals, Lent, roomOf, laterRefusals, lightPairs}
 use Rattle.meaning.specs.PlainBoard.{Entry, Plain, hasPair, taken, plainFree, hasEntry, plainView}
-use Rattle.meaning.specs.ValidPlans.{Valid, Reached}
+use Rattle.meaning.specs.ValidPlans.{ValidPlan}
 use Rattle.meaning.specs.WellFormed.{WellFormed}
-use Rattle.meaning.specs.Refusals.{_says_, Says, Not, StepKnown, Sight, bytesSight, HasEntry, InEntry, InNone, plainSight, StartKnown, RunKnown, LightKnown, LightBytes, RouteRoom, callPaper, lightPaper, publicPaper, LightGiven, GivenBytes, CloseAccepted, LightAccepted, WithdrawAccepted, RouteAccepted, CallAccepted, PlainRight}
+use Rattle.meaning.specs.Refusals.{_says_, Says, Not, StepKnown, Sight, bytesSight, HasEntry, InEntry, InNone, plainSight, TripKnown, RunKnown, LightKnown, LightBytes, RouteRoom, callPaper, lightPaper, publicPaper, LightGiven, GivenBytes, CloseAccepted, LightAccepted, WithdrawAccepted, RouteAccepted, CallAccepted, PlainRight}
 use Rattle.meaning.proofs.BasicsLaws.{every-at, every-nil, every-cons, options, any-at, some-any, any-some, all-at, all-each, each-all, allFrom-in, allFrom-true}
 use Rattle.meaning.proofs.SentenceLaws.{Tells, tells-not, misses, holds, fails, told, tells-le, tells-lt, tells-eq, tells-two, tells-three, tells-four}
 use Rattle.meaning.proofs.BytesLaws.{tells-tug, tells-closure, tells-holder, tells-free, tells-stands}
 use Rattle.meaning.proofs.LightLaws.{lights-right, decode-some, light-decode}
-use Rattle.meaning.proofs.PlanLaws.{plan-valid, valid-plan, held-pairs, run-free}
+use Rattle.meaning.proofs.PlanLaws.{plan-valid, valid-plan, can-unload, unload-can, held-pairs, run-free}
 use Rattle.meaning.proofs.TraceLaws.{search-right}
 use Rattle.meaning.proofs.AnswersLaws.{Passed, rise-none, call-rise, lowest-clear}
 use Rattle.meaning.proofs.ListLaws.{light-free}
 
 -- ---- 10, 14, 17 and 18
 
--- the test of a light decides whether its plan is valid and ends at its goal and arrival
+-- the test of a light decides whether its plan is valid, ends at its goal and arrival, and unloads there
 module _ (site : Site) (f : Free) (x : Light) where
-  pub valid-light : Valid site f (startOf x) (x .steps) (goalOf x) → lightValid site f x ≡ true
+  pub valid-light : ValidPlan site f (startOf x) (x .steps) (goalOf x) (x .dwell) → lightValid site f x ≡ true
   unfolding lightValid
   valid-light v =
-      ap (isAt (x .goal) (x .arrival)) (valid-plan site f (startOf x) (x .steps) (goalOf x) v)
-      ∙ every-cons _ _ (eq-eqb (x .goal) (x .goal) refl) (every-cons _ _ (eq-eqb (x .arrival) (x .arrival) refl) every-nil)
+      every-cons _ _
+      (ap (isAt (x .goal) (x .arrival)) (valid-plan site f (startOf x) (x .steps) (goalOf x) (v .valid))
+      ∙ every-cons _ _ (eq-eqb (x .goal) (x .goal) refl) (every-cons _ _ (eq-eqb (x .arrival) (x .arrival) refl) every-nil))
+      (every-cons _ _ (unload-can site f (goalOf x) (x .dwell) (v .unloads)) every-nil)
 
-  pub light-valid : lightValid site f x ≡ true → Valid site f (startOf x) (x .steps) (goalOf x)
+  pub light-valid : lightValid site f x ≡ true → ValidPlan site f (startOf x) (x .steps) (goalOf x) (x .dwell)
   unfolding lightValid
   light-valid h =
       options (planEnd site f (startOf x) (x .steps))
-      (λ e. absurd (false≢true (sym (ap (isAt (x .goal) (x .arrival)) e) ∙ h)))
+      (λ e. absurd (false≢true (sym (ap (isAt (x .goal) (x .arrival)) e) ∙ every-at _ h 0)))
       (λ b e.
-      let at-goal : isAt (x .goal) (x .arrival) (some b) ≡ true = sym (ap (isAt (x .goal) (x .arrival)) e) ∙ h in
+      let at-goal : isAt (x .goal) (x .arrival) (some b) ≡ true = sym (ap (isAt (x .goal) (x .arrival)) e) ∙ every-at _ h 0 in
       let same-state : b .state ≡ x .goal = eqb-true _ _ (every-at _ at-goal 0) in
       let same-tick : b .tick ≡ x .arrival = eqb-true _ _ (every-at _ at-goal 1) in
       let same : b ≡ goalOf x = (λ i. record { state = same-state i; tick = same-tick i }) in
-      plan-valid site f (startOf x) (x .steps) (goalOf x) (e ∙ ap (λ (n : Node). some n) same))
+      record {
+        valid = plan-valid site f (startOf x) (x .steps) (goalOf x) (e ∙ ap (λ (n : Node). some n) same);
+        unloads = can-unload site f (goalOf x) (x .dwell) (every-at _ h 1);
+      })
 
 module _ (site : Site) where
-  tells-start : (a : Node) (goal : ℕ) → Tells (startNamed site a goal) (StartKnown site a goal)
-  unfolding startNamed
-  tells-start a goal = tells-three (tells-lt _ _) (tells-le _ _) (tells-lt _ _)
+  tells-trip : (a : Node) (goal dwell : ℕ) → Tells (tripNamed site a goal dwell) (TripKnown site a goal dwell)
+  unfolding tripNamed
+  tells-trip a goal dwell = tells-four (tells-lt _ _) (tells-le _ _) (tells-lt _ _) (tells-le dwell 1000)
 
   tells-run : (cell first last : ℕ) → Tells (runNamed site cell first last) (RunKnown site cell first last)
   unfolding runNamed
@@ -72,14 +77,9 @@ module _ (site : Site) where
 
   tells-light : (x : Light) → Tells (lightNamed site x) (LightKnown site x)
   unfolding lightNamed
-  tells-light x =
-      let parts : _ = tells-three (tells-start (startOf x) (x .goal)) (tells-le (x .arrival) (site .horizon)) (tells-steps (x .steps)) in
-      record {
-        then = λ h. (let ((s, t, g), a, ps) = parts .then h in (s, t, g, a, ps));
-        back = λ (s, t, g, a, ps). parts .back ((s, t, g), a, ps);
-      }
+  tells-light x = tells-three (tells-trip (startOf x) (x .goal) (x .dwell)) (tells-le (x .arrival) (site .horizon)) (tells-steps (x .steps))
 
-  tells-valid : (f : Free) (x : Light) → Tells (lightValid site f x) (Valid site f (startOf x) (x .steps) (goalOf x))
+  tells-valid : (f : Free) (x : Light) → Tells (lightValid site f x) (ValidPlan site f (startOf x) (x .steps) (goalOf x) (x .dwell))
   tells-valid f x = record { then = light-valid site f x; back = valid-light site f x }
 
   tells-run-free : (f : Free) (Unheld : ℕ → ℕ → Type 0) → ((c t : ℕ) → Tells (f c t) (Unheld c t)) → (cell first last : ℕ)
@@ -91,14 +91,14 @@ module _ (site : Site) where
         back = λ h. same ∙ allFrom-true (f cell) first (suc last - first) (λ t lo hi. unheld cell t .back (h t lo (omega arith)));
       }
 
-  tells-none : WellFormed site → (f : Free) (a : Node) (goal : ℕ)
-      → Tells (isNone (findRoute site f a goal)) ((t : ℕ) → Not (Reached site f a (record { state = goal; tick = t })))
-  tells-none well f a goal =
-      options (findRoute site f a goal)
-      (λ e. record { then = λ h t reached. search-right .found site well f a goal t reached e; back = λ never. ap isNone e })
+  tells-none : WellFormed site → (f : Free) (a : Node) (goal dwell : ℕ)
+      → Tells (isNone (findRoute site f a goal dwell)) ((ps : List Step) (t : ℕ) → Not (ValidPlan site f a ps (record { state = goal; tick = t }) dwell))
+  tells-none well f a goal dwell =
+      options (findRoute site f a goal dwell)
+      (λ e. record { then = λ h ps t v. search-right .found site well f a goal dwell ps t v e; back = λ never. ap isNone e })
       (λ r e. record {
         then = λ h. absurd (false≢true (sym (ap isNone e) ∙ h));
-        back = λ never. absurd (never (r .arrival) (search-right .earliest site well f a goal r e .reached));
+        back = λ never. absurd (never (r .steps) (r .arrival) (search-right .valid site well f a goal dwell r e));
       })
 
 -- ---- 8
@@ -169,18 +169,19 @@ module _ (site : Site) (well : WellFormed site) (v : View) (s : Sight) (sees : S
   tells-same : (x : Light) → Tells (eqb (x .edition) (v .edition)) (x .edition ≡ s .edition)
   tells-same x = rw (sees .same-edition) (tells-eq (x .edition) (s .edition))
 
-  tells-plan : (x : Light) → Tells (lightValid site (v .free) x) (Valid site (s .free) (startOf x) (x .steps) (goalOf x))
+  tells-plan : (x : Light) → Tells (lightValid site (v .free) x) (ValidPlan site (s .free) (startOf x) (x .steps) (goalOf x) (x .dwell))
   tells-plan x = rw (sees .same-free) (tells-valid site (s .free) x)
 
-  tells-no-route : (a : Node) (goal : ℕ)
-      → Tells (isNone (findRoute site (v .free) a goal)) ((t : ℕ) → Not (Reached site (s .free) a (record { state = goal; tick = t })))
-  tells-no-route a goal = rw (sees .same-free) (tells-none site well (s .free) a goal)
+  tells-no-route : (a : Node) (goal dwell : ℕ)
+      → Tells (isNone (findRoute site (v .free) a goal dwell))
+      ((ps : List Step) (t : ℕ) → Not (ValidPlan site (s .free) a ps (record { state = goal; tick = t }) dwell))
+  tells-no-route a goal dwell = rw (sees .same-free) (tells-none site well (s .free) a goal dwell)
 
   tells-open : (cell first last : ℕ) → Tells (allFree (v .free) (runTo cell first last)) ((t : ℕ) → first ≤ t → t ≤ last → s .Unheld cell t)
   tells-open cell first last = rw (sees .same-free) (tells-run-free site (s .free) (s .Unheld) (sees .unheld) cell first last)
 
   tells-room : (room : Room) → Tells (every (leb (lightRoom site) (room .out) ∷ leb (wordsNeeded site) (room .words) ∷ [])) (RouteRoom site room)
-  tells-room room = tells-two (tells-le (16 + 5 * site .horizon) (room .out)) (tells-le (length (site .states) * (site .horizon + 1)) (room .words))
+  tells-room room = tells-two (tells-le (18 + 5 * site .horizon) (room .out)) (tells-le (length (site .states) * (site .horizon + 1)) (room .words))
 
   tells-stand : (n : ℕ) → Tells (eqb (stateAt site n .speed) 0) (stateAt site n .speed ≡ 0)
   tells-stand n = tells-eq (stateAt site n .speed) 0
@@ -213,17 +214,17 @@ module _ (site : Site) (well : WellFormed site) (v : View) (s : Sight) (sees : S
 
   pub call-says : (room : Room) (c : Call) → LightGiven c → Says (callRefusals site v room c) (callPaper site s room c)
   unfolding routeRefusals closeRefusals withdrawRefusals
-  call-says room (route tug a goal) given = (
+  call-says room (route tug a goal dwell) given = (
     told 9 (tells-not (tells-tug tug)),
     (
-      told 10 (tells-not (tells-start site a goal)),
+      told 10 (tells-not (tells-trip site a goal dwell)),
       (
         told 11 (tells-not (tells-stand goal)),
         (
           told 12 (sees .standing tug),
           (
             told 14 (tells-not (tells-room room)),
-            (told 18 (tells-no-route a goal), tt),
+            (told 18 (tells-no-route a goal dwell), tt),
           ),
         ),
       ),
@@ -311,8 +312,8 @@ module _ (site : Site) (well : WellFormed site) (v : View) (s : Sight) (sees : S
   unfolding lightRefusals
   light-accepted most light (h8, (h9, (h10, (h11, (h12, (h15, (h16, (h17, rest)))))))) =
       let x : Light = lightOf light in
-      let all-free : allFree (s .free) (planPairs site (startOf x) (x .steps)) ≡ true =
-      ap (λ (f : Free). allFree f (planPairs site (startOf x) (x .steps))) (sym (sees .same-free)) ∙ light-free site (v .free) x (not-false _ h17) in
+      let all-free : allFree (s .free) (lightPairs site x) ≡ true =
+      ap (λ (f : Free). allFree f (lightPairs site x)) (sym (sees .same-free)) ∙ light-free site (v .free) x (not-false _ h17) in
       record {
         same-edition = holds (tells-same x) h16;
         holder = holds (tells-tug (x .tug)) h9;
@@ -320,7 +321,7 @@ module _ (site : Site) (well : WellFormed site) (v : View) (s : Sight) (sees : S
         goal-stands = holds (tells-stand (x .goal)) h11;
         new = misses (sees .standing (x .tug)) h12;
         below = below most h15;
-        unheld = λ c t held. sees .unheld c t .then (pair-free (s .free) (planPairs site (startOf x) (x .steps)) c t all-free (held-pairs site (startOf x) (x .steps) c t held));
+        unheld = λ c t held. sees .unheld c t .then (pair-free (s .free) (lightPairs site x) c t all-free (held-pairs site (startOf x) (x .steps) (goalOf x) (x .dwell) c t held));
         valid = holds (tells-plan x) h17;
       }
 
@@ -355,32 +356,35 @@ module _ (site : Site) (well : WellFormed site) (v : View) (s : Sight) (sees : S
         ),
       )
 
-  pub route-accepted : (room : Room) (tug : ℕ) (a : Node) (goal : ℕ) → Each Passed (routeRefusals site v room tug a goal) → RouteAccepted site s room tug a goal
+  pub route-accepted : (room : Room) (tug : ℕ) (a : Node) (goal dwell : ℕ) → Each Passed (routeRefusals site v room tug a goal dwell)
+      → RouteAccepted site s room tug a goal dwell
   unfolding routeRefusals
-  route-accepted room tug a goal (h9, (h10, (h11, (h12, (h14, (h18, rest)))))) = record {
+  route-accepted room tug a goal dwell (h9, (h10, (h11, (h12, (h14, (h18, rest)))))) = record {
     holder = holds (tells-tug tug) h9;
-    known = holds (tells-start site a goal) h10;
+    known = holds (tells-trip site a goal dwell) h10;
     goal-stands = holds (tells-stand goal) h11;
     new = misses (sees .standing tug) h12;
     room-enough = holds (tells-room room) h14;
-    reached = options (findRoute site (v .free) a goal)
+    plan = options (findRoute site (v .free) a goal dwell)
         (λ e. absurd (true≢false (sym (ap isNone e) ∙ h18)))
-        (λ r e. (r .arrival, search-right .earliest site well (s .free) a goal r (ap (λ (f : Free). findRoute site f a goal) (sym (sees .same-free)) ∙ e) .reached));
+        (λ r e.
+        (r .steps, r .arrival, search-right .valid site well (s .free) a goal dwell r (ap (λ (f : Free). findRoute site f a goal dwell) (sym (sees .same-free)) ∙ e)));
   }
 
-  accepted-route : (room : Room) (tug : ℕ) (a : Node) (goal : ℕ) → RouteAccepted site s room tug a goal → Each Passed (routeRefusals site v room tug a goal)
+  accepted-route : (room : Room) (tug : ℕ) (a : Node) (goal dwell : ℕ) → RouteAccepted site s room tug a goal dwell
+      → Each Passed (routeRefusals site v room tug a goal dwell)
   unfolding routeRefusals
-  accepted-route room tug a goal x = (
+  accepted-route room tug a goal dwell x = (
     ap not (tells-tug tug .back (x .holder)),
     (
-      ap not (tells-start site a goal .back (x .known)),
+      ap not (tells-trip site a goal dwell .back (x .known)),
       (
         ap not (tells-stand goal .back (x .goal-stands)),
         (
           fails (sees .standing tug) (x .new),
           (
             ap not (tells-room room .back (x .room-enough)),
-            (fails (tells-no-route a goal) (λ never. (let (t, reached) = x .reached in never t reached)), tt),
+            (fails (tells-no-route a goal dwell) (λ never. (let (ps, t, valid) = x .plan in never ps t valid)), tt),
           ),
         ),
       ),
@@ -389,7 +393,7 @@ module _ (site : Site) (well : WellFormed site) (v : View) (s : Sight) (sees : S
 
   pub call-accepted : s .edition ≤ 4294967295 → (room : Room) (c : Call) → LightGiven c → Each Passed (callRefusals site v room c) → CallAccepted site s room c
   unfolding lightRefusals
-  call-accepted most room (route tug a goal) given h = route-accepted room tug a goal h
+  call-accepted most room (route tug a goal dwell) given h = route-accepted room tug a goal dwell h
   call-accepted most room (audit light) given h =
       (lightOf light, lights-right .only-those light (lightOf light) given (light-decode light (not-false _ (h .0))), light-accepted most light h)
   call-accepted most room (post light) given h =
@@ -398,7 +402,7 @@ module _ (site : Site) (well : WellFormed site) (v : View) (s : Sight) (sees : S
   call-accepted most room (withdraw k) given h = withdraw-accepted most k h
 
   pub accepted-call : (room : Room) (c : Call) → CallAccepted site s room c → Each Passed (callRefusals site v room c)
-  accepted-call room (route tug a goal) x = accepted-route room tug a goal x
+  accepted-call room (route tug a goal dwell) x = accepted-route room tug a goal dwell x
   accepted-call room (audit light) (x, bytes, a) = accepted-light light x bytes a
   accepted-call room (post light) (x, bytes, a) = accepted-light light x bytes a
   accepted-call room (close k cell first last) x = accepted-close k cell first last x

@@ -8,7 +8,7 @@ use mathlib.Core.Option.{Option, some}
 use mathlib.Core.List.{List, [], _∷_, _++_}
 use lib.ListN.{length, take, drop}
 use lib.Seq.{take-append-seam}
-use Rattle.meaning.specs.Limits.{lastEdition}
+use Rattle.meaning.specs.Limits.{dwellLimit, lastEdition}
 use Rattle.meaning.specs.Basics.{isNone}
 use Rattle.meaning.specs.Answers.{Clears}
 use Rattle.meaning.specs.Site.{Site, siteOf}
@@ -17,17 +17,17 @@ use Rattle.meaning.specs.Plan.{Step, Node}
 use Rattle.meaning.specs.Reach.{Route, findRoute}
 use Rattle.meaning.specs.Light.{Light, startOf, encode, decode}
 use Rattle.meaning.specs.Calls.{route, listed, bytesView, Lent, refusals, routeFound, grantedLight, Done, acceptedDone, meant}
-use Rattle.meaning.specs.ValidPlans.{Valid, Reached, Traced, mergeWaits}
+use Rattle.meaning.specs.ValidPlans.{ValidPlan, Traced, mergeWaits}
 use Rattle.meaning.specs.WellFormed.{WellFormed, InLayout, KeepsLayout}
 use Rattle.meaning.specs.Demands.{lightOut, RouteRight}
 use Rattle.meaning.proofs.BasicsLaws.{options}
 use Rattle.meaning.proofs.HolderLaws.{holders-right}
 use Rattle.meaning.proofs.LightLaws.{decode-encode}
 use Rattle.meaning.proofs.TraceLaws.{found-steps, search-right}
-use Rattle.meaning.proofs.CallLaws.{meant-accepted, PassesTo14, passes-to-14, search-found, search-none, granted-found, named-start, named-tick, named-goal}
+use Rattle.meaning.proofs.CallLaws.{meant-accepted, PassesTo14, passes-to-14, search-found, search-none, granted-found, named-start, named-tick, named-goal, named-dwell}
 
-module _ (file : List ℕ) (well : WellFormed (siteOf file)) (l : Lent) (fits : edition (l .board) ≤ lastEdition) (tug : ℕ) (a : Node) (goal : ℕ)
-    (clears : Clears 14 (refusals file l (listed (route tug a goal)))) where
+module _ (file : List ℕ) (well : WellFormed (siteOf file)) (l : Lent) (fits : edition (l .board) ≤ lastEdition) (tug : ℕ) (a : Node) (goal dwell : ℕ)
+    (clears : Clears 14 (refusals file l (listed (route tug a goal dwell)))) where
   abbrev site : Site
   site = siteOf file
 
@@ -35,29 +35,29 @@ module _ (file : List ℕ) (well : WellFormed (siteOf file)) (l : Lent) (fits : 
   f = free site (l .board)
 
   abbrev d : Done
-  d = meant file l (listed (route tug a goal))
+  d = meant file l (listed (route tug a goal dwell))
 
   abbrev granted : Light
-  granted = grantedLight site (bytesView site (l .board)) tug a goal
+  granted = grantedLight site (bytesView site (l .board)) tug a goal dwell
 
-  passes : PassesTo14 site l tug a goal
-  passes = passes-to-14 file l tug a goal clears
+  passes : PassesTo14 site l tug a goal dwell
+  passes = passes-to-14 file l tug a goal dwell clears
 
   -- the search found nothing, or a route
-  is-found : (t : ℕ) → Reached site f a (record { state = goal; tick = t }) → isNone (findRoute site f a goal) ≡ false
-  is-found t reached =
-      options (findRoute site f a goal)
-      (λ e. absurd (search-right .found site well f a goal t reached e))
+  is-found : (ps : List Step) (t : ℕ) → ValidPlan site f a ps (record { state = goal; tick = t }) dwell → isNone (findRoute site f a goal dwell) ≡ false
+  is-found ps t v =
+      options (findRoute site f a goal dwell)
+      (λ e. absurd (search-right .found site well f a goal dwell ps t v e))
       (λ r e. ap isNone e)
 
-  is-none : ((t : ℕ) → Reached site f a (record { state = goal; tick = t }) → ⊥) → isNone (findRoute site f a goal) ≡ true
+  is-none : ((ps : List Step) (t : ℕ) → ValidPlan site f a ps (record { state = goal; tick = t }) dwell → ⊥) → isNone (findRoute site f a goal dwell) ≡ true
   is-none never =
-      options (findRoute site f a goal)
+      options (findRoute site f a goal dwell)
       (λ e. ap isNone e)
-      (λ r e. absurd (never (r .arrival) (record { steps = r .steps; valid = search-right .valid site well f a goal r e })))
+      (λ r e. absurd (never (r .steps) (r .arrival) (search-right .valid site well f a goal dwell r e)))
 
   -- the light of a found route
-  module _ (r : Route) (e : findRoute site f a goal ≡ some r) where
+  module _ (r : Route) (e : findRoute site f a goal dwell ≡ some r) where
     light-steps : granted .steps ≡ r .steps
     unfolding grantedLight bytesView
     light-steps = ap (λ (o : Option Route). routeFound o .steps) e
@@ -69,12 +69,13 @@ module _ (file : List ℕ) (well : WellFormed (siteOf file)) (l : Lent) (fits : 
     keeps : KeepsLayout granted
     unfolding grantedLight bytesView
     keeps =
-        let (laid, named, few, in-time) = found-steps site well f a goal r e in
+        let (laid, named, few, in-time) = found-steps site well f a goal dwell r e in
         let most : site .horizon ≤ 1000 = well .horizon-range .1 in
         let states : length (site .states) ≤ 256 = well .states-range .1 in
-        let start-known : a .state < length (site .states) = named-start site a goal (passes .named) in
-        let start-early : a .tick ≤ site .horizon = named-tick site a goal (passes .named) in
-        let goal-known : goal < length (site .states) = named-goal site a goal (passes .named) in
+        let start-known : a .state < length (site .states) = named-start site a goal dwell (passes .named) in
+        let start-early : a .tick ≤ site .horizon = named-tick site a goal dwell (passes .named) in
+        let goal-known : goal < length (site .states) = named-goal site a goal dwell (passes .named) in
+        let dwell-small : dwell ≤ dwellLimit = named-dwell site a goal dwell (passes .named) in
         let (tug-low, tug-high) = holders-right .tugs tug (passes .is-tug) in
         let arrives : granted .arrival ≡ r .arrival = light-arrival in
         let steps : length (granted .steps) ≡ length (r .steps) = ap length light-steps in
@@ -85,6 +86,7 @@ module _ (file : List ℕ) (well : WellFormed (siteOf file)) (l : Lent) (fits : 
           tick-fits = omega arith;
           goal-fits = omega arith;
           arrival-fits = omega arith;
+          dwell-fits = omega arith;
           laid-out = subst (λ (ps : List Step). InLayout true ps) (sym light-steps) laid;
           short = omega arith;
         }
@@ -93,13 +95,13 @@ module _ (file : List ℕ) (well : WellFormed (siteOf file)) (l : Lent) (fits : 
   LightSays x =
       (y : Light)
       × (decode (lightOut x) ≡ some y)
-      × (y .edition ≡ edition (l .board)) × (y .tug ≡ tug) × (startOf y ≡ a) × (y .goal ≡ goal)
+      × (y .edition ≡ edition (l .board)) × (y .tug ≡ tug) × (startOf y ≡ a) × (y .goal ≡ goal) × (y .dwell ≡ dwell)
       × (x .values ≡ length (lightOut x) ∷ y .arrival ∷ [])
-      × Valid site f a (y .steps) (record { state = goal; tick = y .arrival })
-      × ((ps : List Step) (t : ℕ) → Valid site f a ps (record { state = goal; tick = t }) → y .arrival ≤ t)
+      × ValidPlan site f a (y .steps) (record { state = goal; tick = y .arrival }) dwell
+      × ((ps : List Step) (t : ℕ) → ValidPlan site f a ps (record { state = goal; tick = t }) dwell → y .arrival ≤ t)
       × ((back : List Step) × Traced site f a (record { state = goal; tick = y .arrival }) back × (y .steps ≡ mergeWaits back []))
 
-  light-says : (r : Route) → findRoute site f a goal ≡ some r → LightSays (acceptedDone site l (listed (route tug a goal)))
+  light-says : (r : Route) → findRoute site f a goal dwell ≡ some r → LightSays (acceptedDone site l (listed (route tug a goal dwell)))
   unfolding acceptedDone grantedLight bytesView
   light-says r e =
       let bytes : List ℕ = encode granted in
@@ -112,18 +114,19 @@ module _ (file : List ℕ) (well : WellFormed (siteOf file)) (l : Lent) (fits : 
         refl,
         refl,
         refl,
+        refl,
         ap {B = List ℕ} (λ n. n ∷ granted .arrival ∷ []) (ap length (sym front)),
-        rw (steps, arrives) (search-right .valid site well f a goal r e),
-        λ ps t v. rw arrives (search-right .earliest site well f a goal r e .least t (record { steps = ps; valid = v })),
-        rw (steps, arrives) (search-right .traced site well f a goal r e),
+        rw (steps, arrives) (search-right .valid site well f a goal dwell r e),
+        λ ps t v. rw arrives (search-right .earliest site well f a goal dwell r e .least t (record { steps = ps; valid = v .valid }) (v .unloads)),
+        rw (steps, arrives) (search-right .traced site well f a goal dwell r e),
       )
 
-  pub route-right : RouteRight site (l .board) tug a goal d
+  pub route-right : RouteRight site (l .board) tug a goal dwell d
   unfolding bytesView
   route-right = record {
-    granted-if = λ t reached. search-found file l tug a goal clears (is-found t reached);
-    refused-if = λ never. search-none file l tug a goal clears (is-none never);
+    granted-if = λ ps t v. search-found file l tug a goal dwell clears (is-found ps t v);
+    refused-if = λ never. search-none file l tug a goal dwell clears (is-none never);
     light = λ z.
-        let (r, e) = granted-found file l tug a goal z in
-        subst LightSays (sym (meant-accepted file l (listed (route tug a goal)) z)) (light-says r e);
+        let (r, e) = granted-found file l tug a goal dwell z in
+        subst LightSays (sym (meant-accepted file l (listed (route tug a goal dwell)) z)) (light-says r e);
   }

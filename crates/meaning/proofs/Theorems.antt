@@ -1,6 +1,6 @@
 -- All theorems about the definitions, each as it is stated in specs/.
 -- Assumes nothing.
-use Rattle.meaning.specs.Laws.{LowestRight, RefusalsRise, HoldersRight, SitesRight, LightsRight, PlansRight, SearchRight, IntervalsRight, HandoverRight, DayRight}
+use Rattle.meaning.specs.Laws.{LowestRight, RefusalsRise, HoldersRight, SitesRight, LightsRight, PlansRight, DwellRight, SearchRight, IntervalsRight, HandoverRight, DayRight}
 use Rattle.meaning.specs.Refusals.{RefusalsSay, BytesRight, PlainRight}
 use Rattle.meaning.specs.Demands.{Desk, Exact, meantDesk, Demand1, Demand2, Demand3}
 use Rattle.meaning.proofs.AnswersLaws.{lowest-right, refusals-rise}
@@ -11,6 +11,7 @@ use Rattle.meaning.proofs.HolderLaws.{holders-right}
 use Rattle.meaning.proofs.SiteLaws.{sites-right}
 use Rattle.meaning.proofs.LightLaws.{lights-right}
 use Rattle.meaning.proofs.PlanLaws.{plans-right}
+use Rattle.meaning.proofs.DwellLaws.{dwell-right}
 use Rattle.meaning.proofs.TraceLaws.{search-right}
 use Rattle.meaning.proofs.IntervalLaws.{intervals-right}
 use Rattle.meaning.proofs.HandoverLaws.{handover-right}
@@ -30,6 +31,7 @@ pub record AllLaws : Type 0 where
   pub sites : SitesRight
   pub lights : LightsRight
   pub plans : PlansRight
+  pub dwell : DwellRight
   pub search : SearchRight
   pub intervals : IntervalsRight
   pub handover : HandoverRight
@@ -46,6 +48,7 @@ all-laws = record {
   sites = sites-right;
   lights = lights-right;
   plans = plans-right;
+  dwell = dwell-right;
   search = search-right;
   intervals = intervals-right;
   handover = handover-right;

@@ -10,6 +10,7 @@ use mathlib.Core.Option.{Option, some}
 use mathlib.Core.List.{List, [], _∷_}
 use borrow.Author.Tests.{lt-ltb}
 use lib.ListN.{length}
+use Rattle.meaning.specs.Limits.{fieldHeader, lightHeadSize, stepSize}
 use Rattle.meaning.specs.Basics.{all}
 use Rattle.meaning.specs.Site.{Site, Motion, motionAt}
 use Rattle.meaning.specs.Board.{Free}
@@ -17,13 +18,13 @@ use Rattle.meaning.specs.Plan.{Step, wait, move, Node, allowed, after, w
 use Rattle.meaning.specs.Reach.{rowsTo, reached, wordIn, waitOne, trace, Route, findRoute}
 use Rattle.meaning.specs.Light.{Light, encode}
 use Rattle.meaning.specs.Calls.{stepNamed}
-use Rattle.meaning.specs.ValidPlans.{Leads, Valid, Reached, StepTo, Traced, begun, took-wait, took-motion, mergeWaits}
+use Rattle.meaning.specs.ValidPlans.{Leads, Valid, ValidPlan, Reached, StepTo, Traced, begun, took-wait, took-motion, mergeWaits}
 use Rattle.meaning.specs.WellFormed.{WellFormed, InLayout}
 use Rattle.meaning.specs.Laws.{SearchRight}
 use Rattle.meaning.proofs.BasicsLaws.{every-nil, every-cons, when-test, when-value, all-nil, all-cons}
-use Rattle.meaning.proofs.PlanLaws.{walk-leads, leads-walk, plan-valid, valid-plan}
+use Rattle.meaning.proofs.PlanLaws.{walk-leads, leads-walk, plan-valid, valid-plan, can-unload, unload-can}
 use Rattle.meaning.proofs.LightLaws.{length-encode}
-use Rattle.meaning.proofs.ReachLaws.{Merged, waitOne-merged, span-pos, move-known, move-from, move-ends, wait-ends, walk-step, waited, arrives, move-arrives, Came, at-start, by-wait, by-move, came-here, trace-start, trace-wait, trace-move, word-row, Found, reached-sound, plan-reached, reached-complete, Arrives, found-arrives, route-valid, route-earliest, route-none}
+use Rattle.meaning.proofs.ReachLaws.{Merged, waitOne-merged, span-pos, move-known, move-from, move-ends, wait-ends, walk-step, waited, arrives, move-arrives, Came, at-start, by-wait, by-move, came-here, trace-start, trace-wait, trace-move, word-row, Found, reached-sound, plan-reached, reached-complete, Arrives, found-arrives, route-valid, route-unloads, route-earliest, route-none}
 
 -- ---- one step
 
@@ -174,13 +175,16 @@ module _ (site : Site) (well : WellFormed site) (f : Free) (a : Node) where
     trace-follows zero k s h hf r = absurd (not-suc-le-zero hf)
     trace-follows (suc fuel) k s h hf r = follows-came fuel (trace-follows fuel) (came-here site well f a k s r) h hf (word-row site well f a n k s h)
 
-  found-valid : (goal : ℕ) (r : Route) → findRoute site f a goal ≡ some r → Valid site f a (r .steps) (at goal (r .arrival))
-  found-valid goal r h = plan-valid site f a (r .steps) (at goal (r .arrival)) (route-valid site well f a goal r h)
+  found-valid : (goal dwell : ℕ) (r : Route) → findRoute site f a goal dwell ≡ some r → ValidPlan site f a (r .steps) (at goal (r .arrival)) dwell
+  found-valid goal dwell r h = record {
+    valid = plan-valid site f a (r .steps) (at goal (r .arrival)) (route-valid site well f a goal dwell r h);
+    unloads = can-unload site f (at goal (r .arrival)) dwell (route-unloads site well f a goal dwell r h);
+  }
 
-  found-traced : (goal : ℕ) (r : Route) → findRoute site f a goal ≡ some r
+  found-traced : (goal dwell : ℕ) (r : Route) → findRoute site f a goal dwell ≡ some r
       → (back : List Step) × Traced site f a (at goal (r .arrival)) back × (r .steps ≡ mergeWaits back [])
-  found-traced goal r h =
-      let got : Arrives site well f a goal r = found-arrives site well f a goal r h in
+  found-traced goal dwell r h =
+      let got : Arrives site well f a goal dwell r = found-arrives site well f a goal dwell r h in
       let k : ℕ = got .after-start in
       let (back, t, same) = trace-follows (site .horizon - a .tick) (suc k) k goal (got .in-time) (omega arith) (got .here) in
       (back, subst (λ (u : ℕ). Traced site f a (at goal u) back) (sym (got .on-tick)) t, got .traced ∙ same [])
@@ -223,21 +227,21 @@ module _ (site : Site) (well : WellFormed site) (f : Free) where
       let (laid, named, few, end) = walked-small true ps (after site (move j) b) e in-time m (when-value (allowed site f (move j) b) rest h) in
       ((omega arith, laid), all-cons (stepNamed site) (move j) ps (lt-ltb _ _ known) named, omega arith, end)
 
-pub found-steps : (site : Site) → WellFormed site → (f : Free) (a : Node) (goal : ℕ) (r : Route) → findRoute site f a goal ≡ some r
+pub found-steps : (site : Site) → WellFormed site → (f : Free) (a : Node) (goal dwell : ℕ) (r : Route) → findRoute site f a goal dwell ≡ some r
     → InLayout true (r .steps) × (all (stepNamed site) (r .steps) ≡ true) × (a .tick + length (r .steps) ≤ r .arrival) × (r .arrival ≤ site .horizon)
-found-steps site well f a goal r h =
-    let valid : Valid site f a (r .steps) (at goal (r .arrival)) = found-valid site well f a goal r h in
-    let (back, t, same) = found-traced site well f a goal r h in
+found-steps site well f a goal dwell r h =
+    let valid : Valid site f a (r .steps) (at goal (r .arrival)) = found-valid site well f a goal dwell r h .valid in
+    let (back, t, same) = found-traced site well f a goal dwell r h in
     walked-small site well f true (r .steps) a (at goal (r .arrival)) (valid .tick-known)
     (subst (Merged true) (sym same) (traced-merged site f a t [] tt)) (leads-walk site f (valid .leads))
 
 -- ---- the search is right
 
-route-fits : (site : Site) → WellFormed site → (f : Free) (a : Node) (goal : ℕ) (r : Route) → findRoute site f a goal ≡ some r
-    → (l : Light) → l .steps ≡ r .steps → length (encode l) ≤ 16 + 5 * site .horizon
-route-fits site well f a goal r h l same =
-    let (laid, named, few, in-time) = found-steps site well f a goal r h in
-    let size : length (encode l) ≡ 16 + 5 * length (l .steps) = length-encode l in
+route-fits : (site : Site) → WellFormed site → (f : Free) (a : Node) (goal dwell : ℕ) (r : Route) → findRoute site f a goal dwell ≡ some r
+    → (l : Light) → l .steps ≡ r .steps → length (encode l) ≤ 18 + 5 * site .horizon
+route-fits site well f a goal dwell r h l same =
+    let (laid, named, few, in-time) = found-steps site well f a goal dwell r h in
+    let size : length (encode l) ≡ 18 + 5 * length (l .steps) = length-encode l in
     let steps : length (l .steps) ≡ length (r .steps) = ap length same in
     omega arith
 
@@ -246,11 +250,14 @@ search-right =
     record {
       pointed = λ site well f a k s w e. reached-pair site well f a k s (rw e);
       all-pointed = λ site well f a k s r e. false≢true (rw e at (pair-reached site well f a k s r));
-      found = λ site well f a goal t r e. route-none site well f a goal t (r .steps) e (valid-plan site f a (r .steps) (at goal t) (r .valid));
-      earliest = λ site well f a goal r e.
+      found = λ site well f a goal dwell ps t v e.
+          route-none site well f a goal dwell t ps e (valid-plan site f a ps (at goal t) (v .valid)) (unload-can site f (at goal t) dwell (v .unloads));
+      earliest = λ site well f a goal dwell r e.
           record {
-            reached = record { steps = r .steps; valid = found-valid site well f a goal r e };
-            least = λ u p. route-earliest site well f a goal u r (p .steps) e (valid-plan site f a (p .steps) (at goal u) (p .valid));
+            reached = record { steps = r .steps; valid = found-valid site well f a goal dwell r e .valid };
+            unloads = found-valid site well f a goal dwell r e .unloads;
+            least = λ u p unloads.
+                route-earliest site well f a goal dwell u r (p .steps) e (valid-plan site f a (p .steps) (at goal u) (p .valid)) (unload-can site f (at goal u) dwell unloads);
           };
       valid = found-valid;
       traced = found-traced;

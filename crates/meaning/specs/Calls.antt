@@ -6,21 +6,21 @@ use mathlib.Core.Option.{Option, none, some}
 use mathlib.Core.List.{List, [], _∷_, _++_}
 use lib.Dec.{leb, ltb, eqb}
 use lib.ListN.{length, drop, replicate}
-use Rattle.meaning.specs.Limits.{lastEdition, fieldHeader, lightHeadSize, stepSize}
+use Rattle.meaning.specs.Limits.{dwellLimit, lastEdition, fieldHeader, lightHeadSize, stepSize}
 use Rattle.meaning.specs.Basics.{every, all, isNone}
 use Rattle.meaning.specs.Answers.{Refusal, _if_, lowest}
 use Rattle.meaning.specs.Site.{Site, standing, siteOf, siteRefusals}
 use Rattle.meaning.specs.Board.{Free, free, stands, isTug, isClosure, isHolder, boardLength, edition, Pair, runTo, allFree, mark, clear, nextEdition}
-use Rattle.meaning.specs.Plan.{Step, wait, move, Node, planEnd, planPairs}
+use Rattle.meaning.specs.Plan.{Step, wait, move, Node, planEnd, canUnload, planPairs}
 use Rattle.meaning.specs.Reach.{Route, findRoute}
-use Rattle.meaning.specs.Light.{Light, startOf, encode, lightOf, isLight}
+use Rattle.meaning.specs.Light.{Light, startOf, goalOf, encode, lightOf, isLight}
 use Rattle.meaning.specs.Intervals.{Interval, intervals, numbersOf}
 
 -- ---- the calls and their own arguments
 
 -- the calls of 'Lists of calls'
 pub data Call : Type 0 where
-  route : (tug : ℕ) (start : Node) (goal : ℕ) → Call
+  route : (tug : ℕ) (start : Node) (goal dwell : ℕ) → Call
   audit : (light : List ℕ) → Call
   post : (light : List ℕ) → Call
   close : (holder cell first last : ℕ) → Call
@@ -50,10 +50,10 @@ pub record Room : Type 0 where
 
 -- ---- the tests
 
--- 10: the states and ticks that a call names
-unfoldable pub startNamed : Site → Node → ℕ → Bool
-startNamed site a goal =
-    every (ltb (a .state) (length (site .states)) ∷ leb (a .tick) (site .horizon) ∷ ltb goal (length (site .states)) ∷ [])
+-- 10: the states and ticks that a call names, and the dwell
+unfoldable pub tripNamed : Site → Node → ℕ → ℕ → Bool
+tripNamed site a goal dwell =
+    every (ltb (a .state) (length (site .states)) ∷ leb (a .tick) (site .horizon) ∷ ltb goal (length (site .states)) ∷ leb dwell dwellLimit ∷ [])
 
 unfoldable pub runNamed : Site → ℕ → ℕ → ℕ → Bool
 runNamed site cell first last =
@@ -65,7 +65,7 @@ stepNamed site (move m) = ltb m (length (site .motions))
 
 unfoldable pub lightNamed : Site → Light → Bool
 lightNamed site l =
-    every (startNamed site (startOf l) (l .goal) ∷ leb (l .arrival) (site .horizon) ∷ all (stepNamed site) (l .steps) ∷ [])
+    every (tripNamed site (startOf l) (l .goal) (l .dwell) ∷ leb (l .arrival) (site .horizon) ∷ all (stepNamed site) (l .steps) ∷ [])
 
 -- 14: a light has at most one step a tick; a search has a word for each state and tick
 abbrev pub lightRoom : Site → ℕ
@@ -77,25 +77,26 @@ wordsNeeded site = length (site .states) * (site .horizon + 1)
 abbrev pub numbersRoom : Site → ℕ
 numbersRoom site = site .horizon + 2
 
--- 17: the steps are a valid plan that ends at the light's goal and arrival
+-- 17: the steps are a valid plan that ends at the light's goal and arrival and unloads there
 abbrev pub isAt : ℕ → ℕ → Option Node → Bool
 isAt s t none = false
 isAt s t (some a) = every (eqb (a .state) s ∷ eqb (a .tick) t ∷ [])
 
 unfoldable pub lightValid : Site → Free → Light → Bool
-lightValid site f l = isAt (l .goal) (l .arrival) (planEnd site f (startOf l) (l .steps))
+lightValid site f l =
+    every (isAt (l .goal) (l .arrival) (planEnd site f (startOf l) (l .steps)) ∷ canUnload site f (goalOf l) (l .dwell) ∷ [])
 
 -- ---- the list of refusals, call by call
 
 -- up to 14; then the search answers
-unfoldable pub routeRefusals : Site → View → Room → ℕ → Node → ℕ → List Refusal
-routeRefusals site v room tug a goal =
+unfoldable pub routeRefusals : Site → View → Room → ℕ → Node → ℕ → ℕ → List Refusal
+routeRefusals site v room tug a goal dwell =
     9 if not (isTug tug)
-    ∷ 10 if not (startNamed site a goal)
+    ∷ 10 if not (tripNamed site a goal dwell)
     ∷ 11 if not (standing site goal)
     ∷ 12 if v .stands tug
     ∷ 14 if not (every (leb (lightRoom site) (room .out) ∷ leb (wordsNeeded site) (room .words) ∷ []))
-    ∷ 18 if isNone (findRoute site (v .free) a goal)
+    ∷ 18 if isNone (findRoute site (v .free) a goal dwell)
     ∷ []
 
 unfoldable pub lightRefusals : Site → View → List ℕ → List Refusal
@@ -127,7 +128,7 @@ withdrawRefusals v h =
     ∷ []
 
 abbrev pub callRefusals : Site → View → Room → Call → List Refusal
-callRefusals site v room (route tug a goal) = routeRefusals site v room tug a goal
+callRefusals site v room (route tug a goal dwell) = routeRefusals site v room tug a goal dwell
 callRefusals site v room (audit light) = lightRefusals site v light
 callRefusals site v room (post light) = lightRefusals site v light
 callRefusals site v room (close h cell first last) = closeRefusals site v h cell first last
@@ -187,9 +188,9 @@ routeFound none = record { steps = []; arrival = 0 }
 routeFound (some r) = r
 
 -- the light of a granted route: the traced plan, made from the board's edition
-unfoldable pub grantedLight : Site → View → ℕ → Node → ℕ → Light
-grantedLight site v tug a goal =
-    let r : Route = routeFound (findRoute site (v .free) a goal) in
+unfoldable pub grantedLight : Site → View → ℕ → Node → ℕ → ℕ → Light
+grantedLight site v tug a goal dwell =
+    let r : Route = routeFound (findRoute site (v .free) a goal dwell) in
     record {
       edition = v .edition;
       tug = tug;
@@ -197,15 +198,16 @@ grantedLight site v tug a goal =
       tick = a .tick;
       goal = goal;
       arrival = r .arrival;
+      dwell = dwell;
       steps = r .steps;
     }
 
 abbrev pub lightPairs : Site → Light → List Pair
-lightPairs site l = planPairs site (startOf l) (l .steps)
+lightPairs site l = planPairs site (startOf l) (l .steps) (goalOf l) (l .dwell)
 
 -- the board after an accepted call: post, close and withdraw change it and add 1 to the edition
 unfoldable pub changed : Site → List ℕ → Call → List ℕ
-changed site board (route tug a goal) = board
+changed site board (route tug a goal dwell) = board
 changed site board (audit light) = board
 changed site board (post light) = nextEdition board (mark site (lightOf light .tug) (lightPairs site (lightOf light)) board)
 changed site board (close h cell first last) = nextEdition board (mark site h (runTo cell first last) board)
@@ -236,7 +238,7 @@ changedDone l board = record { number = 0; values = []; lent = withBoard board l
 unfoldable pub acceptedDone : Site → Lent → PublicCall → Done
 acceptedDone site l opening = changedDone l (replicate (length (l .board)) 0)
 acceptedDone site l (interval cell) = countedDone l (intervals (free site (l .board) cell) (site .horizon))
-acceptedDone site l (listed (route tug a goal)) = grantedDone site l (grantedLight site (bytesView site (l .board)) tug a goal)
+acceptedDone site l (listed (route tug a goal dwell)) = grantedDone site l (grantedLight site (bytesView site (l .board)) tug a goal dwell)
 acceptedDone site l (listed (audit light)) = changedDone l (changed site (l .board) (audit light))
 acceptedDone site l (listed (post light)) = changedDone l (changed site (l .board) (post light))
 acceptedDone site l (listed (close h cell first last)) = changedDone l (changed site (l .board) (close h cell first last))
@@ -250,6 +252,6 @@ abbrev pub doneBy : Site → Lent → PublicCall → ℕ → Done
 doneBy site l q zero = acceptedDone site l q
 doneBy site l q (suc n) = refusedDone site l (suc n)
 
--- what document 01 says that a call returns and leaves, over any site file and anything lent
+-- what the documents say that a call returns and leaves, over any site file and anything lent
 unfoldable pub meant : List ℕ → Lent → PublicCall → Done
 meant file l q = doneBy (siteOf file) l q (lowest (refusals file l q))

@@ -31,9 +31,9 @@ abbrev pub ScriptField : List ℕ → Call → Field → Type 0
 ScriptField light (close h cell first last) f =
     (first < 65536) × (last < 65536) × (f ≡ record { tag = 32; value = h ∷ cell ∷ (put16 first ++ put16 last) })
 ScriptField light (withdraw h) f = f ≡ record { tag = 33; value = h ∷ [] }
-ScriptField light (route tug a goal) f =
-    (a .state < 65536) × (a .tick < 65536) × (goal < 65536)
-    × (f ≡ record { tag = 34; value = tug ∷ (put16 (a .state) ++ (put16 (a .tick) ++ put16 goal)) })
+ScriptField light (route tug a goal dwell) f =
+    (a .state < 65536) × (a .tick < 65536) × (goal < 65536) × (dwell < 65536)
+    × (f ≡ record { tag = 34; value = tug ∷ (put16 (a .state) ++ (put16 (a .tick) ++ (put16 goal ++ put16 dwell))) })
 ScriptField light (post granted) f = (granted ≡ light) × (f ≡ record { tag = 35; value = [] })
 ScriptField light (audit x) f = ⊥
 
@@ -49,7 +49,7 @@ abbrev pub called : List ℕ → List ℕ → Call → Done
 called file board c = meant file (lends board (replicate 65536 0) (replicate 16384 0)) (listed c)
 
 abbrev pub IsRoute : Call → Type 0
-IsRoute c = (tug : ℕ) × (a : Node) × (goal : ℕ) × (c ≡ route tug a goal)
+IsRoute c = (tug : ℕ) × (a : Node) × (goal : ℕ) × (dwell : ℕ) × (c ≡ route tug a goal dwell)
 
 -- ---- the script
 

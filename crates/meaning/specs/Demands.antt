@@ -15,7 +15,7 @@ use Rattle.meaning.specs.Light.{Light, startOf, goalOf, decode}
 use Rattle.meaning.specs.Intervals.{Interval, numbersOf}
 use Rattle.meaning.specs.Calls.{Call, route, audit, post, close, withdraw, PublicCall, opening, interval, listed, Lent, roomOf, refusals, Done, meant}
 use Rattle.meaning.specs.PlainBoard.{Entry, Plain, emptyPlain, hasPair, Seen, plainSeen, plainAfter, bytesOf}
-use Rattle.meaning.specs.ValidPlans.{Valid, Reached, Holds, Traced, mergeWaits}
+use Rattle.meaning.specs.ValidPlans.{ValidPlan, Holds, Traced, mergeWaits}
 use Rattle.meaning.specs.Refusals.{bytesSight, CloseAccepted, LightAccepted, WithdrawAccepted, RouteAccepted}
 use Rattle.meaning.specs.SafeIntervals.{AllSafeIntervals}
 
@@ -61,7 +61,7 @@ abbrev pub OnlyBoard : Lent → Done → Type 0
 OnlyBoard l d = (d .values ≡ []) × (d .lent .out ≡ l .out) × (d .lent .words ≡ l .words)
 
 pub record Demand1 (desk : Desk) : Type 0 where
-  -- a call returns and writes exactly what document 01 says
+  -- a call returns and writes exactly what the documents say
   pub exactly : Exact desk
   -- a refused call gives the first number of the list that applies; 0 where none does
   pub first-number : (file : List ℕ) (l : Lent) (q : PublicCall) (d : Done) → desk file l q d → d .number ≡ lowest (refusals file l q)
@@ -85,7 +85,7 @@ pub record Demand1 (desk : Desk) : Type 0 where
   pub posted : (file : List ℕ) (l : Lent) (light : List ℕ) (d : Done) → Bytes (l .board)
       → desk file l (listed (post light)) d → d .number ≡ 0
       → (x : Light) × (decode light ≡ some x)
-      × OnlyBoard l d × Rewritten (siteOf file) (l .board) (d .lent .board) (Holds (siteOf file) (startOf x) (x .steps)) (x .tug)
+      × OnlyBoard l d × Rewritten (siteOf file) (l .board) (d .lent .board) (Holds (siteOf file) (startOf x) (x .steps) (goalOf x) (x .dwell)) (x .tug)
       × LightAccepted (siteOf file) (bytesSight (siteOf file) (l .board)) x
   pub withdrawn : (file : List ℕ) (l : Lent) (h : ℕ) (d : Done) → Bytes (l .board)
       → desk file l (listed (withdraw h)) d → d .number ≡ 0
@@ -93,27 +93,27 @@ pub record Demand1 (desk : Desk) : Type 0 where
       × WithdrawAccepted (siteOf file) (bytesSight (siteOf file) (l .board)) h
   pub audited : (file : List ℕ) (l : Lent) (light : List ℕ) (d : Done) → desk file l (listed (audit light)) d
       → (d .values ≡ []) × (d .lent ≡ l) × (d .number ≡ meant file l (listed (post light)) .number)
-  pub granted : (file : List ℕ) (l : Lent) (tug : ℕ) (a : Node) (goal : ℕ) (d : Done) → desk file l (listed (route tug a goal)) d → d .number ≡ 0
+  pub granted : (file : List ℕ) (l : Lent) (tug : ℕ) (a : Node) (goal dwell : ℕ) (d : Done) → desk file l (listed (route tug a goal dwell)) d → d .number ≡ 0
       → (d .lent .board ≡ l .board)
       × Written (lightOut d) (l .out) (d .lent .out)
       × Written (replicate (length (siteOf file .states) * (siteOf file .horizon + 1)) 0) (l .words) (d .lent .words)
-      × RouteAccepted (siteOf file) (bytesSight (siteOf file) (l .board)) (record { out = length (l .out); words = length (l .words) }) tug a goal
+      × RouteAccepted (siteOf file) (bytesSight (siteOf file) (l .board)) (record { out = length (l .out); words = length (l .words) }) tug a goal dwell
 
 -- ---- demand 2
 
 -- what holds of a route call that passes checks 1 to 14, on the board that it gets
-pub record RouteRight (site : Site) (board : List ℕ) (tug : ℕ) (a : Node) (goal : ℕ) (d : Done) : Type 0 where
-  -- it is granted exactly when some valid plan leads to its goal by the horizon; else it is 18
-  pub granted-if : (t : ℕ) → Reached site (free site board) a (record { state = goal; tick = t }) → d .number ≡ 0
-  pub refused-if : ((t : ℕ) → Reached site (free site board) a (record { state = goal; tick = t }) → ⊥) → d .number ≡ 18
+pub record RouteRight (site : Site) (board : List ℕ) (tug : ℕ) (a : Node) (goal dwell : ℕ) (d : Done) : Type 0 where
+  -- it is granted exactly when some valid plan leads to its goal and unloads there by the horizon; else it is 18
+  pub granted-if : (ps : List Step) (t : ℕ) → ValidPlan site (free site board) a ps (record { state = goal; tick = t }) dwell → d .number ≡ 0
+  pub refused-if : ((ps : List Step) (t : ℕ) → ValidPlan site (free site board) a ps (record { state = goal; tick = t }) dwell → ⊥) → d .number ≡ 18
   -- the granted light is such a plan, made from the board's edition, and every other such plan arrives on the same tick or later
   pub light : d .number ≡ 0
       → (x : Light)
       × (decode (lightOut d) ≡ some x)
-      × (x .edition ≡ edition board) × (x .tug ≡ tug) × (startOf x ≡ a) × (x .goal ≡ goal)
+      × (x .edition ≡ edition board) × (x .tug ≡ tug) × (startOf x ≡ a) × (x .goal ≡ goal) × (x .dwell ≡ dwell)
       × (d .values ≡ length (lightOut d) ∷ x .arrival ∷ [])
-      × Valid site (free site board) a (x .steps) (record { state = goal; tick = x .arrival })
-      × ((ps : List Step) (t : ℕ) → Valid site (free site board) a ps (record { state = goal; tick = t }) → x .arrival ≤ t)
+      × ValidPlan site (free site board) a (x .steps) (record { state = goal; tick = x .arrival }) dwell
+      × ((ps : List Step) (t : ℕ) → ValidPlan site (free site board) a ps (record { state = goal; tick = t }) dwell → x .arrival ≤ t)
       -- and of those that arrive then it is the traced one
       × ((back : List Step) × Traced site (free site board) a (record { state = goal; tick = x .arrival }) back × (x .steps ≡ mergeWaits back []))
 
@@ -125,17 +125,18 @@ pub record Demand2 (desk : Desk) : Type 0 where
       × (d .values ≡ length list ∷ [])
       × (d .lent .board ≡ l .board) × (d .lent .words ≡ l .words)
       × Written (numbersOf list) (l .out) (d .lent .out)
-  -- a light that clears checks 1 to 16 passes the audit exactly when its start, waits and motions are allowed and end at its goal and arrival
+  -- a light that clears checks 1 to 16 passes the audit exactly when its start, waits, motions and unloading are allowed and they end at its
+  -- goal and arrival
   pub audit-passes : (file : List ℕ) (l : Lent) (light : List ℕ) (x : Light) (d : Done) → desk file l (listed (audit light)) d
       → Clears 16 (refusals file l (listed (audit light))) → decode light ≡ some x
-      → Valid (siteOf file) (free (siteOf file) (l .board)) (startOf x) (x .steps) (goalOf x) → d .number ≡ 0
+      → ValidPlan (siteOf file) (free (siteOf file) (l .board)) (startOf x) (x .steps) (goalOf x) (x .dwell) → d .number ≡ 0
   pub audit-fails : (file : List ℕ) (l : Lent) (light : List ℕ) (x : Light) (d : Done) → desk file l (listed (audit light)) d
       → Clears 16 (refusals file l (listed (audit light))) → decode light ≡ some x
-      → (Valid (siteOf file) (free (siteOf file) (l .board)) (startOf x) (x .steps) (goalOf x) → ⊥) → d .number ≡ 17
+      → (ValidPlan (siteOf file) (free (siteOf file) (l .board)) (startOf x) (x .steps) (goalOf x) (x .dwell) → ⊥) → d .number ≡ 17
   -- routes, over boards of any content
-  pub routes : (file : List ℕ) (l : Lent) (tug : ℕ) (a : Node) (goal : ℕ) (d : Done) → Bytes (l .board)
-      → desk file l (listed (route tug a goal)) d → Clears 14 (refusals file l (listed (route tug a goal)))
-      → RouteRight (siteOf file) (l .board) tug a goal d
+  pub routes : (file : List ℕ) (l : Lent) (tug : ℕ) (a : Node) (goal dwell : ℕ) (d : Done) → Bytes (l .board)
+      → desk file l (listed (route tug a goal dwell)) d → Clears 14 (refusals file l (listed (route tug a goal dwell)))
+      → RouteRight (siteOf file) (l .board) tug a goal dwell d
 
 -- ---- demand 3
 
@@ -174,9 +175,9 @@ Has es h c t = Some (λ (e : Entry). (e .holder ≡ h) × (hasPair (e .pairs) c 
 
 abbrev pub RouteTurn : List ℕ → Site → Turn → Type 0
 RouteTurn file site x =
-    (tug : ℕ) (a : Node) (goal : ℕ) → x .call ≡ route tug a goal
-    → Clears 14 (refusals file (x .lent) (listed (route tug a goal)))
-    → RouteRight site (x .lent .board) tug a goal (x .done)
+    (tug : ℕ) (a : Node) (goal dwell : ℕ) → x .call ≡ route tug a goal dwell
+    → Clears 14 (refusals file (x .lent) (listed (route tug a goal dwell)))
+    → RouteRight site (x .lent .board) tug a goal dwell (x .done)
 
 -- after a list of calls from a fresh board
 pub record ListRight (file : List ℕ) (site : Site) (board : List ℕ) (xs : List Turn) : Type 0 where

@@ -2,6 +2,7 @@
 -- Assumes nothing.
 use Prim.Native.Nat.{ℕ, suc, _+_, _*_, _≤_, _<_}
 use mathlib.Core.Path.{_≡_}
+use mathlib.Core.Logic.{_⊎_}
 use mathlib.Core.Bool.{Bool, true, false}
 use mathlib.Core.Option.{Option, none, some}
 use mathlib.Core.List.{List, [], _∷_, _++_}
@@ -9,9 +10,9 @@ use lib.ListN.{length, drop}
 use Rattle.meaning.specs.Basics.{Each, Some, Bytes}
 use Rattle.meaning.specs.Answers.{Refusal, lowest, RiseFrom, accepted, refused}
 use Rattle.meaning.specs.Fields.{Field, fields}
-use Rattle.meaning.specs.Site.{Site, siteRefusals, readSite}
+use Rattle.meaning.specs.Site.{Site, stateAt, cellOf, siteRefusals, readSite}
 use Rattle.meaning.specs.Board.{Free, isTug, isClosure, isHolder}
-use Rattle.meaning.specs.Plan.{Step, Node, planEnd, planPairs}
+use Rattle.meaning.specs.Plan.{Step, wait, Node, planEnd, canUnload, planPairs}
 use Rattle.meaning.specs.Reach.{reachWord, Route, findRoute}
 use Rattle.meaning.specs.Light.{Light, encode, decode}
 use Rattle.meaning.specs.Intervals.{Interval, intervals, numbersOf}
@@ -19,7 +20,7 @@ use Rattle.meaning.specs.Calls.{Call, PublicCall, Lent, refusals}
 use Rattle.meaning.specs.PlainBoard.{hasPair}
 use Rattle.meaning.specs.Day.{line, Day, callOf, dayOpened, textOf, texts, dayText, piece, lineNext, dayNext}
 use Rattle.meaning.specs.DayPrints.{LineText, ScriptField, start, DayPrints}
-use Rattle.meaning.specs.ValidPlans.{Valid, Reached, Arrival, Holds, Traced, mergeWaits}
+use Rattle.meaning.specs.ValidPlans.{Leads, Valid, Unloads, ValidPlan, Reached, Arrival, Along, Holds, Traced, mergeWaits}
 use Rattle.meaning.specs.SafeIntervals.{AllSafeIntervals}
 use Rattle.meaning.specs.WellFormed.{WellFormed, fileOf, KeepsLayout}
 
@@ -57,12 +58,28 @@ pub record LightsRight : Type 0 where
   pub read-back : (l : Light) → KeepsLayout l → decode (encode l) ≡ some l
   pub only-those : (bytes : List ℕ) (l : Light) → Bytes bytes → decode bytes ≡ some l → KeepsLayout l × (encode l ≡ bytes)
 
--- the walk accepts exactly the valid plans, and the pairs that are marked are exactly those that the plan holds
+-- the walk accepts exactly the valid steps, and the pairs that are marked are exactly those that the plan holds
 pub record PlansRight : Type 0 where
   pub walked : (site : Site) (f : Free) (a : Node) (ps : List Step) (b : Node) → planEnd site f a ps ≡ some b → Valid site f a ps b
   pub all-walked : (site : Site) (f : Free) (a : Node) (ps : List Step) (b : Node) → Valid site f a ps b → planEnd site f a ps ≡ some b
-  pub marked : (site : Site) (a : Node) (ps : List Step) (c t : ℕ) → hasPair (planPairs site a ps) c t ≡ true → Holds site a ps c t
-  pub all-marked : (site : Site) (a : Node) (ps : List Step) (c t : ℕ) → Holds site a ps c t → hasPair (planPairs site a ps) c t ≡ true
+  pub marked : (site : Site) (a : Node) (ps : List Step) (b : Node) (dwell c t : ℕ) → hasPair (planPairs site a ps b dwell) c t ≡ true
+      → Holds site a ps b dwell c t
+  pub all-marked : (site : Site) (a : Node) (ps : List Step) (b : Node) (dwell c t : ℕ) → Holds site a ps b dwell c t
+      → hasPair (planPairs site a ps b dwell) c t ≡ true
+
+-- time at the dock
+pub record DwellRight : Type 0 where
+  pub unloaded : (site : Site) (f : Free) (b : Node) (dwell : ℕ) → canUnload site f b dwell ≡ true → Unloads site f b dwell
+  pub all-unloaded : (site : Site) (f : Free) (b : Node) (dwell : ℕ) → Unloads site f b dwell → canUnload site f b dwell ≡ true
+  -- a dwell at a standing goal is allowed exactly as a wait there is
+  pub as-a-wait : (site : Site) (f : Free) (b : Node) (n : ℕ) → 1 ≤ n → stateAt site (b .state) .speed ≡ 0 → Unloads site f b n
+      → Leads site f b (wait n ∷ []) (record { state = b .state; tick = b .tick + n })
+  pub wait-unloads : (site : Site) (f : Free) (b c : Node) (n : ℕ) → Leads site f b (wait n ∷ []) c → Unloads site f b n
+  -- a dwell of 0 asks for nothing that valid steps do not have, and holds nothing but the start's pair and what the steps use: plans
+  -- without a dwell are those of document 01
+  pub no-dwell : (site : Site) → WellFormed site → (f : Free) (a : Node) (ps : List Step) (b : Node) → Valid site f a ps b → Unloads site f b 0
+  pub no-dwell-holds : (site : Site) → WellFormed site → (f : Free) (a : Node) (ps : List Step) (b : Node) → Valid site f a ps b
+      → (c t : ℕ) → Holds site a ps b 0 c t → ((c ≡ cellOf site (a .state)) × (t ≡ a .tick)) ⊎ Along site c t a ps
 
 -- the search, on a well-formed site
 pub record SearchRight : Type 0 where
@@ -72,21 +89,21 @@ pub record SearchRight : Type 0 where
   pub all-pointed : (site : Site) → WellFormed site → (f : Free) (a : Node) (k s : ℕ)
       → Reached site f a (record { state = s; tick = a .tick + k }) → reachWord site f a k s ≡ 0 → ⊥
   -- a route is found exactly when a valid plan exists
-  pub found : (site : Site) → WellFormed site → (f : Free) (a : Node) (goal t : ℕ)
-      → Reached site f a (record { state = goal; tick = t }) → findRoute site f a goal ≡ none → ⊥
-  -- it arrives on the least tick
-  pub earliest : (site : Site) → WellFormed site → (f : Free) (a : Node) (goal : ℕ) (r : Route) → findRoute site f a goal ≡ some r
-      → Arrival site f a goal (r .arrival)
+  pub found : (site : Site) → WellFormed site → (f : Free) (a : Node) (goal dwell : ℕ) (ps : List Step) (t : ℕ)
+      → ValidPlan site f a ps (record { state = goal; tick = t }) dwell → findRoute site f a goal dwell ≡ none → ⊥
+  -- it arrives on the least tick from which the tug can unload
+  pub earliest : (site : Site) → WellFormed site → (f : Free) (a : Node) (goal dwell : ℕ) (r : Route) → findRoute site f a goal dwell ≡ some r
+      → Arrival site f a goal dwell (r .arrival)
   -- its steps are valid, and those of the traced rule with adjoining waits merged
-  pub valid : (site : Site) → WellFormed site → (f : Free) (a : Node) (goal : ℕ) (r : Route) → findRoute site f a goal ≡ some r
-      → Valid site f a (r .steps) (record { state = goal; tick = r .arrival })
-  pub traced : (site : Site) → WellFormed site → (f : Free) (a : Node) (goal : ℕ) (r : Route) → findRoute site f a goal ≡ some r
+  pub valid : (site : Site) → WellFormed site → (f : Free) (a : Node) (goal dwell : ℕ) (r : Route) → findRoute site f a goal dwell ≡ some r
+      → ValidPlan site f a (r .steps) (record { state = goal; tick = r .arrival }) dwell
+  pub traced : (site : Site) → WellFormed site → (f : Free) (a : Node) (goal dwell : ℕ) (r : Route) → findRoute site f a goal dwell ≡ some r
       → (back : List Step) × Traced site f a (record { state = goal; tick = r .arrival }) back × (r .steps ≡ mergeWaits back [])
   -- that rule leaves no choice
   pub one-trace : (site : Site) (f : Free) (a b : Node) (back other : List Step) → Traced site f a b back → Traced site f a b other → back ≡ other
   -- every light of the steps fits the output area
-  pub fits : (site : Site) → WellFormed site → (f : Free) (a : Node) (goal : ℕ) (r : Route) → findRoute site f a goal ≡ some r
-      → (l : Light) → l .steps ≡ r .steps → length (encode l) ≤ 16 + 5 * site .horizon
+  pub fits : (site : Site) → WellFormed site → (f : Free) (a : Node) (goal dwell : ℕ) (r : Route) → findRoute site f a goal dwell ≡ some r
+      → (l : Light) → l .steps ≡ r .steps → length (encode l) ≤ 18 + 5 * site .horizon
 
 -- what the interval call writes: all safe intervals and only those, in no more numbers than the area must have
 pub record IntervalsRight : Type 0 where
@@ -95,16 +112,16 @@ pub record IntervalsRight : Type 0 where
   pub numbers : (first : ℕ) (last : ℕ) (is : List Interval) → numbersOf (record { first = first; last = last } ∷ is) ≡ first ∷ last ∷ numbersOf is
   pub fit : (p : ℕ → Bool) (horizon : ℕ) → length (numbersOf (intervals p horizon)) ≤ horizon + 2
 
--- handover: at each tick before its arrival a valid plan holds some one cell at that tick and the next
+-- handover: at each tick before it has unloaded a valid plan holds some one cell at that tick and the next
 pub record HandoverRight : Type 0 where
-  pub handed : (site : Site) → WellFormed site → (f : Free) (a : Node) (ps : List Step) (b : Node) → Valid site f a ps b
-      → (t : ℕ) → a .tick ≤ t → t < b .tick
-      → (c : ℕ) × Holds site a ps c t × Holds site a ps c (suc t)
+  pub handed : (site : Site) → WellFormed site → (f : Free) (a : Node) (ps : List Step) (b : Node) (dwell : ℕ) → ValidPlan site f a ps b dwell
+      → (t : ℕ) → a .tick ≤ t → t < b .tick + dwell
+      → (c : ℕ) × Holds site a ps b dwell c t × Holds site a ps b dwell c (suc t)
   -- so of two plans that share no pair, a valid one never moves into the cells that the other leaves at that moment: they never change places
-  pub no-swap : (site : Site) → WellFormed site → (f : Free) (a d : Node) (ps qs : List Step) (b : Node) → Valid site f a ps b
-      → ((c t : ℕ) → Holds site a ps c t → Holds site d qs c t → ⊥)
-      → (t : ℕ) → a .tick ≤ t → t < b .tick
-      → ((c : ℕ) → Holds site a ps c (suc t) → Holds site d qs c t) → ⊥
+  pub no-swap : (site : Site) → WellFormed site → (f : Free) (a d : Node) (ps qs : List Step) (b e : Node) (dwell other : ℕ) → ValidPlan site f a ps b dwell
+      → ((c t : ℕ) → Holds site a ps b dwell c t → Holds site d qs e other c t → ⊥)
+      → (t : ℕ) → a .tick ≤ t → t < b .tick + dwell
+      → ((c : ℕ) → Holds site a ps b dwell c (suc t) → Holds site d qs e other c t) → ⊥
 
 -- ---- the day program
 
@@ -135,7 +152,7 @@ pub record DayRight : Type 0 where
   pub never-silent : (file script : List ℕ) → 1 ≤ length (dayText file script)
   -- it may read its script turn by turn, no more than a header and the value that a call may have: the opening and the turns, one after
   -- the other, print the text of the whole script, and no other
-  pub short-pieces : (script : List ℕ) → length (piece script) ≤ 10
+  pub short-pieces : (script : List ℕ) → length (piece script) ≤ 12
   pub turns : (file script : List ℕ) → DayTurns file script (dayText file script)
   pub only-turns : (file script text : List ℕ) → DayTurns file script text → text ≡ dayText file script
   -- a site whose board is larger than the area meets 7

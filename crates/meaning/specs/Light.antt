@@ -18,6 +18,7 @@ pub record Light : Type 0 where
   pub tick : ℕ
   pub goal : ℕ
   pub arrival : ℕ
+  pub dwell : ℕ
   pub steps : List Step
 
 -- where its plan starts, and where it says that it ends
@@ -34,7 +35,7 @@ lightHead l =
     record {
       tag = lightTag;
       value =
-          put32 (l .edition) ++ (l .tug ∷ (put16 (l .start) ++ (put16 (l .tick) ++ (put16 (l .goal) ++ put16 (l .arrival)))));
+          put32 (l .edition) ++ (l .tug ∷ (put16 (l .start) ++ (put16 (l .tick) ++ (put16 (l .goal) ++ (put16 (l .arrival) ++ put16 (l .dwell))))));
     }
 
 abbrev pub stepField : Step → Field
@@ -65,6 +66,7 @@ lightOf bytes =
       tick = u16At (lightHeadOf bytes .value) 7;
       goal = u16At (lightHeadOf bytes .value) 9;
       arrival = u16At (lightHeadOf bytes .value) 11;
+      dwell = u16At (lightHeadOf bytes .value) 13;
       steps = map stepOf (stepFields bytes);
     }
 

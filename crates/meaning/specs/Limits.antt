@@ -1,4 +1,4 @@
--- The numbers of document 01: limits, tags and sizes, each named once.
+-- The numbers of documents 01 and 02: limits, tags and sizes, each named once.
 -- Assumes nothing.
 use Prim.Native.Nat.{ℕ}
 
@@ -26,7 +26,11 @@ sweepLimit = 16
 
 -- a light's bytes
 abbrev pub lightLimit : ℕ
-lightLimit = 5016
+lightLimit = 5018
+
+-- the ticks that a tug unloads at its goal
+abbrev pub dwellLimit : ℕ
+dwellLimit = 1000
 
 -- the edition after which no call changes the board
 abbrev pub lastEdition : ℕ
@@ -92,7 +96,7 @@ sweepSize = 3
 
 -- the values of a light's fields
 abbrev pub lightHeadSize : ℕ
-lightHeadSize = 13
+lightHeadSize = 15
 
 abbrev pub stepSize : ℕ
 stepSize = 2
@@ -109,7 +113,7 @@ abbrev pub withdrawSize : ℕ
 withdrawSize = 1
 
 abbrev pub routeSize : ℕ
-routeSize = 7
+routeSize = 9
 
 -- each area of the day program, and how many 32-bit words one holds
 abbrev pub dayArea : ℕ

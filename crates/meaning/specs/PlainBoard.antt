@@ -63,7 +63,7 @@ withEntry p h ps = record { edition = p .edition + 1; entries = record { holder 
 
 -- the plain board after an accepted call
 unfoldable pub plainChanged : Site → Plain → Call → Plain
-plainChanged site p (route tug a goal) = p
+plainChanged site p (route tug a goal dwell) = p
 plainChanged site p (audit light) = p
 plainChanged site p (post light) = withEntry p (lightOf light .tug) (lightPairs site (lightOf light))
 plainChanged site p (close h cell first last) = withEntry p h (runTo cell first last)
@@ -83,7 +83,7 @@ lightSeen l = record { number = 0; values = length (encode l) ∷ l .arrival ∷
 
 -- what an accepted call shows
 abbrev pub acceptedSeen : Site → View → Call → Seen
-acceptedSeen site v (route tug a goal) = lightSeen (grantedLight site v tug a goal)
+acceptedSeen site v (route tug a goal dwell) = lightSeen (grantedLight site v tug a goal dwell)
 acceptedSeen site v (audit light) = numberSeen 0
 acceptedSeen site v (post light) = numberSeen 0
 acceptedSeen site v (close h cell first last) = numberSeen 0

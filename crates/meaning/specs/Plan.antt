@@ -72,7 +72,12 @@ startFree site f a =
 unfoldable pub planEnd : Site → Free → Node → List Step → Option Node
 planEnd site f a ps = when (startFree site f a) (walk site f ps a)
 
--- ---- the pairs that a plan holds: its start's, and those that its steps need free
+-- unloading: the cell of the node is free for the dwell, which ends by the horizon
+unfoldable pub canUnload : Site → Free → Node → ℕ → Bool
+canUnload site f b dwell =
+    every (freeFromTo f (cellOf site (b .state)) (b .tick) (b .tick + dwell) ∷ leb (b .tick + dwell) (site .horizon) ∷ [])
+
+-- ---- the pairs that a plan holds: its start's, those that its steps need free, and those of its unloading at b
 
 abbrev pub sweptPairs : List Sweep → ℕ → List Pair
 sweptPairs [] t = []
@@ -86,5 +91,6 @@ abbrev pub walkPairs : Site → List Step → Node → List Pair
 walkPairs site [] a = []
 walkPairs site (p ∷ ps) a = stepPairs site p a ++ walkPairs site ps (after site p a)
 
-unfoldable pub planPairs : Site → Node → List Step → List Pair
-planPairs site a ps = record { cell = cellOf site (a .state); tick = a .tick } ∷ walkPairs site ps a
+unfoldable pub planPairs : Site → Node → List Step → Node → ℕ → List Pair
+planPairs site a ps b dwell =
+    record { cell = cellOf site (a .state); tick = a .tick } ∷ (walkPairs site ps a ++ runTo (cellOf site (b .state)) (b .tick) (b .tick + dwell))

@@ -12,7 +12,7 @@ use lib.ListN.{length, getD}
 use Rattle.meaning.specs.Basics.{every, tabulate, least, isZero}
 use Rattle.meaning.specs.Site.{Site, motionAt}
 use Rattle.meaning.specs.Board.{Free}
-use Rattle.meaning.specs.Plan.{Step, wait, move, Node, allowed, startFree}
+use Rattle.meaning.specs.Plan.{Step, wait, move, Node, allowed, startFree, canUnload}
 
 -- A row has a word for each state. Rows are kept newest first: `back` is how many rows lie between.
 abbrev pub reachedIn : List (List ℕ) → ℕ → ℕ → Bool
@@ -95,12 +95,16 @@ unfoldable pub tracedRoute : Site → List (List ℕ) → ℕ → Node → ℕ �
 tracedRoute site rows n a goal none = none
 tracedRoute site rows n a goal (some k) = some (record { steps = trace site rows n (suc k) k goal []; arrival = a .tick + k })
 
-unfoldable pub routeIn : Site → List (List ℕ) → ℕ → Node → ℕ → Option Route
-routeIn site rows n a goal =
-    tracedRoute site rows n a goal (least (λ (k : ℕ). not (isZero (wordIn rows n k goal))) 0 (suc n))
+-- the goal is reached k ticks after the start, and the tug can unload there
+abbrev pub endsAfter : Site → Free → List (List ℕ) → ℕ → Node → ℕ → ℕ → ℕ → Bool
+endsAfter site f rows n a goal dwell k =
+    every (not (isZero (wordIn rows n k goal)) ∷ canUnload site f (record { state = goal; tick = a .tick + k }) dwell ∷ [])
 
--- the traced plan to the goal with the least arrival, or nothing
-unfoldable pub findRoute : Site → Free → Node → ℕ → Option Route
-findRoute site f a goal =
+unfoldable pub routeIn : Site → Free → List (List ℕ) → ℕ → Node → ℕ → ℕ → Option Route
+routeIn site f rows n a goal dwell = tracedRoute site rows n a goal (least (endsAfter site f rows n a goal dwell) 0 (suc n))
+
+-- the traced plan to the goal with the least arrival from which the tug can unload, or nothing
+unfoldable pub findRoute : Site → Free → Node → ℕ → ℕ → Option Route
+findRoute site f a goal dwell =
     let rows : List (List ℕ) = rowsTo site f a (site .horizon - a .tick) in
-    routeIn site rows (site .horizon - a .tick) a goal
+    routeIn site f rows (site .horizon - a .tick) a goal dwell

@@ -1,5 +1,5 @@
 -- Valid plans, reached pairs, the arrival and the traced rule as relations, in the papers' words: 'Problem Statement' of SIPP-IP as
--- document 01 gives it. No test and no search stands in them.
+-- documents 01 and 02 give it. No test and no search stands in them.
 -- Assumes nothing.
 use Prim.Native.Nat.{ℕ, _+_, _≤_, _<_}
 use mathlib.Core.Path.{_≡_}
@@ -37,22 +37,33 @@ pub data Leads (site : Site) (f : Free) : Node → List Step → Node → Type 0
       → Leads site f (record { state = motionAt site m .to; tick = a .tick + motionAt site m .span }) ps b
       → Leads site f a (move m ∷ ps) b
 
--- a valid plan from a to b: it starts at a state and tick whose cell is free then
+-- valid steps from a to b: they start at a state and tick whose cell is free then
 pub record Valid (site : Site) (f : Free) (a : Node) (ps : List Step) (b : Node) : Type 0 where
   pub state-known : a .state < length (site .states)
   pub tick-known : a .tick ≤ site .horizon
   pub start-free : f (cellOf site (a .state)) (a .tick) ≡ true
   pub leads : Leads site f a ps b
 
+-- unloading at b: the goal's cell is free from the arrival to the arrival plus the dwell, and that last tick is at most the horizon
+pub record Unloads (site : Site) (f : Free) (b : Node) (dwell : ℕ) : Type 0 where
+  pub dock-free : FreeFromTo f (cellOf site (b .state)) (b .tick) (b .tick + dwell)
+  pub in-time : b .tick + dwell ≤ site .horizon
+
+-- a valid plan from a that arrives at b and unloads there
+pub record ValidPlan (site : Site) (f : Free) (a : Node) (ps : List Step) (b : Node) (dwell : ℕ) : Type 0 where
+  pub valid : Valid site f a ps b
+  pub unloads : Unloads site f b dwell
+
 -- a pair is reached if some valid steps from the start lead there
 pub record Reached (site : Site) (f : Free) (a b : Node) : Type 0 where
   pub steps : List Step
   pub valid : Valid site f a steps b
 
--- the arrival: the least tick at which the goal is reached
-pub record Arrival (site : Site) (f : Free) (a : Node) (goal t : ℕ) : Type 0 where
+-- the arrival: the least tick at which the goal is reached and the tug can unload
+pub record Arrival (site : Site) (f : Free) (a : Node) (goal dwell t : ℕ) : Type 0 where
   pub reached : Reached site f a (record { state = goal; tick = t })
-  pub least : (u : ℕ) → Reached site f a (record { state = goal; tick = u }) → t ≤ u
+  pub unloads : Unloads site f (record { state = goal; tick = t }) dwell
+  pub least : (u : ℕ) → Reached site f a (record { state = goal; tick = u }) → Unloads site f (record { state = goal; tick = u }) dwell → t ≤ u
 
 -- ---- the pairs that a plan holds
 
@@ -69,10 +80,11 @@ pub data Along (site : Site) (c t : ℕ) : Node → List Step → Type 0 where
       → Along site c t (record { state = motionAt site m .to; tick = a .tick + motionAt site m .span }) ps
       → Along site c t a (move m ∷ ps)
 
--- the plan from a holds the pair: its start's, or one that a step uses; and nothing later
-pub data Holds (site : Site) (a : Node) (ps : List Step) (c t : ℕ) : Type 0 where
-  at-start : c ≡ cellOf site (a .state) → t ≡ a .tick → Holds site a ps c t
-  on-the-way : Along site c t a ps → Holds site a ps c t
+-- the plan from a to b holds the pair: its start's, one that a step uses, or one of its unloading at b; and nothing later
+pub data Holds (site : Site) (a : Node) (ps : List Step) (b : Node) (dwell c t : ℕ) : Type 0 where
+  at-start : c ≡ cellOf site (a .state) → t ≡ a .tick → Holds site a ps b dwell c t
+  on-the-way : Along site c t a ps → Holds site a ps b dwell c t
+  at-goal : c ≡ cellOf site (b .state) → b .tick ≤ t → t ≤ b .tick + dwell → Holds site a ps b dwell c t
 
 -- ---- the traced rule
 

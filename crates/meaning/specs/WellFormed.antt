@@ -65,7 +65,7 @@ InLayout mayWait [] = Unit {0}
 InLayout mayWait (wait n ∷ ps) = (mayWait ≡ true) × (1 ≤ n) × (n < 65536) × InLayout false ps
 InLayout mayWait (move m ∷ ps) = (m < 65536) × InLayout true ps
 
--- the head's numbers have their widths, and the steps keep the layout and leave the light at most 5,016 bytes
+-- the head's numbers have their widths, and the steps keep the layout and leave the light at most 5,018 bytes
 pub record KeepsLayout (l : Light) : Type 0 where
   pub edition-fits : l .edition ≤ 4294967295
   pub tug-fits : l .tug < 256
@@ -73,5 +73,6 @@ pub record KeepsLayout (l : Light) : Type 0 where
   pub tick-fits : l .tick < 65536
   pub goal-fits : l .goal < 65536
   pub arrival-fits : l .arrival < 65536
+  pub dwell-fits : l .dwell < 65536
   pub laid-out : InLayout true (l .steps)
-  pub short : 16 + 5 * length (l .steps) ≤ 5016
+  pub short : 18 + 5 * length (l .steps) ≤ 5018

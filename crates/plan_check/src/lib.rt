@@ -1,4 +1,4 @@
-// A light's plan: does the walk of its steps hold on the board, and are the numbers that it names the site's.
+// A light's plan: does the walk of its steps hold on the board, can the tug unload where it ends, and may the numbers be named.
 use light::Head;
 use light_steps::Step;
 use plan_steps::Node;
@@ -16,15 +16,15 @@ ghost use lib.ListN.{length};
 ghost use Rattle.meaning.specs.Basics.{every, all};
 ghost use Rattle.meaning.specs.Site.{Site, siteOf};
 ghost use Rattle.meaning.specs.Board.{free};
-ghost use Rattle.meaning.specs.Plan.{walk, startFree};
+ghost use Rattle.meaning.specs.Plan.{walk, startFree, canUnload};
 ghost use Rattle.meaning.specs.Light.{isLight, lightOf};
-ghost use Rattle.meaning.specs.Calls.{isAt, lightValid, startNamed, stepNamed, lightNamed};
+ghost use Rattle.meaning.specs.Calls.{isAt, lightValid, tripNamed, stepNamed, lightNamed};
 ghost use Rattle.light_steps.specs.Steps.{laidFrom, stepsFrom};
 ghost use Rattle.site.specs.Check.{sizesOf};
 ghost use Rattle.site_read.specs.Motions.{Index};
 ghost use Rattle.site.specs.Ready.{Ready};
 ghost use Rattle.plan_steps.specs.Nodes.{nodeOf, Here};
-ghost use Rattle.plan_check.specs.Walks.{walkEndCase, startIn};
+ghost use Rattle.plan_check.specs.Walks.{walkEndCase, startIn, goalIn};
 
 // How a walk ends: at a node, or at a step that is not allowed.
 enum WalkEnd {
@@ -59,6 +59,16 @@ pub fn start_of(head: Head) -> Node
     }
 }
 
+// Where a light says that its plan ends.
+pub fn goal_of(head: Head) -> Node
+    ensures { λ r. ⌜ nodeOf r ≡ goalIn head ⌝ }
+{
+    Node {
+        state: head.goal as usize,
+        tick: Tick(head.arrival as u32),
+    }
+}
+
 // `b` is where a light says that its plan ends: its goal and its arrival.
 fn at_goal(b: Node, head: Head) -> bool
     ensures { λ r. ⌜ r ≡ isAt (head .goal) (head .arrival) (some (nodeOf b)) ⌝ }
@@ -67,6 +77,21 @@ fn at_goal(b: Node, head: Head) -> bool
         return false;
     }
     b.tick.0 == head.arrival as u32
+}
+
+// `b` is where a light says that its plan ends, and the tug can unload there.
+fn unloads_at(file: &[u8], board: &[u8], sizes: Sizes, b: Node, head: Head) -> bool
+    requires { ⌜ Ready (now file) (length (now board)) sizes × Here (now file) b ⌝ }
+    ensures { λ r. ⌜ r ≡ every (
+        isAt (head .goal) (head .arrival) (some (nodeOf b))
+        ∷ canUnload (siteOf (now (file .entry))) (free (siteOf (now (file .entry))) (now (board .entry))) (goalIn head) (head .dwell)
+        ∷ []) ⌝ }
+{
+    if at_goal(b, head) {
+        plan_steps::can_stay(file, board, sizes, b, Span(head.dwell as u32))
+    } else {
+        false
+    }
 }
 
 // Where the steps of the light from `first` on lead from `start`.
@@ -112,7 +137,7 @@ fn walk_steps(
     }
 }
 
-// The light's steps are a valid plan on the board that ends at the light's goal and arrival.
+// The light's steps are a valid plan on the board that ends at the light's goal and arrival and unloads there.
 pub fn light_valid(
     file: &[u8],
     board: &[u8],
@@ -127,7 +152,7 @@ pub fn light_valid(
     let start = start_of(head);
     if start_free(file, board, sizes, start) {
         match walk_steps(file, board, sizes, index, light, light::FIRST_STEP, start) {
-            WalkEnd::At(b) => at_goal(b, head),
+            WalkEnd::At(b) => unloads_at(file, board, sizes, b, head),
             WalkEnd::NotAllowed => false,
         }
     } else {
@@ -156,14 +181,15 @@ fn motions_named(light: &[u8], first: usize, motions: usize) -> bool
     }
 }
 
-// The states and the ticks that a light's head names are the site's.
+// The states and the ticks that a light's head names are the site's, and its dwell is within its limit.
 fn head_named(sizes: Sizes, head: Head) -> bool
-    ensures { λ r. ⌜ ((s : Site) → sizes ≡ sizesOf s → r ≡ every (startNamed s (startIn head) (head .goal) ∷ leb (head .arrival) (s .horizon) ∷ [])) ⌝ }
+    ensures { λ r. ⌜ ((s : Site) → sizes ≡ sizesOf s → r ≡ every (tripNamed s (startIn head) (head .goal) (head .dwell) ∷ leb (head .arrival) (s .horizon) ∷ [])) ⌝ }
 {
     let trip = Trip {
         start: head.start,
         tick: head.tick,
         goal: head.goal,
+        dwell: head.dwell,
     };
     if site::trip_named(sizes, trip) {
         time::in_time(Tick(head.arrival as u32), sizes.horizon)
@@ -172,7 +198,7 @@ fn head_named(sizes: Sizes, head: Head) -> bool
     }
 }
 
-// Every state, tick and motion that the light names is the site's.
+// Every state, tick and motion that the light names is the site's, and its dwell is within its limit.
 pub fn light_named(sizes: Sizes, light: &[u8]) -> bool
     requires { ⌜ isLight (now light) ≡ true ⌝ }
     ensures { λ r. ⌜ ((s : Site) → sizes ≡ sizesOf s → r ≡ lightNamed s (lightOf (now (light .entry)))) ⌝ }

@@ -7,15 +7,17 @@ use mathlib.Core.Bool.{true, false≢true}
 use mathlib.Core.List.{List, [], _∷_}
 use mathlib.Core.Option.{Option, none, some}
 use lib.ListN.{length}
-use borrow.Author.Tests.{leb-true, ltb-true}
+use borrow.Author.Tests.{leb-true, ltb-true, eqb-true}
 use Rattle.meaning.specs.Limits.{sweepSize}
 use Rattle.meaning.specs.Site.{Site, Sweep, siteOf, cellOf}
 use Rattle.meaning.specs.Board.{Free, Pair, run, runTo, mark}
 use Rattle.meaning.specs.Plan as Plan
 use Rattle.meaning.specs.Plan.{wait, move, allowed, after, walk, startFree, planEnd, sweptPairs, stepPairs, walkPairs, planPairs}
-use Rattle.meaning.specs.Light.{isLight, lightOf, startOf}
+use Rattle.meaning.specs.WellFormed.{WellFormed}
+use Rattle.meaning.specs.Light.{isLight, lightOf, startOf, goalOf}
 use Rattle.meaning.specs.Calls.{isAt, lightValid, lightPairs}
 use Rattle.meaning.proofs.BasicsLaws.{every-at, when-test, when-value}
+use Rattle.meaning.proofs.PlanLaws.{can-unload}
 use Rattle.meaning.proofs.BoardLaws.{mark-append, length-mark}
 use Rattle.site_sweeps.specs.Places.{sweepAt, sweepsAt, SweepIs}
 use Rattle.site_sweeps.specs.declared.Sweep as ReadSweep
@@ -31,8 +33,9 @@ use Rattle.plan_steps.specs.declared.Node.{Node}
 use Rattle.site.specs.Ready.{Ready}
 use Rattle.plan_steps.specs.Nodes.{nodeOf, Here}
 use Rattle.plan_steps.proofs.NodeLaws.{Next}
-use Rattle.plan_check.specs.Walks.{startIn}
+use Rattle.plan_check.specs.Walks.{startIn, goalIn}
 use Rattle.plan_check.proofs.LightLaws.{start-known}
+use Rattle.plan_check.proofs.WalkLaws.{end-known}
 use Rattle.plan_mark.specs.InTime.{InTime}
 
 -- a board of the same length serves as well
@@ -111,9 +114,9 @@ walk-in-time site f (move k ∷ ps) a b h =
     let ok : allowed site f (move k) a ≡ true = when-test _ rest h in
     (ltb-true _ _ (every-at _ ok 0), leb-true _ _ (every-at _ ok 3), walk-in-time site f ps (after site (move k) a) b (when-value (allowed site f (move k) a) rest h))
 
-valid-end : (s t : ℕ) (o : Option Plan.Node) → isAt s t o ≡ true → (a : Plan.Node) × (o ≡ some a)
+valid-end : (s t : ℕ) (o : Option Plan.Node) → isAt s t o ≡ true → (a : Plan.Node) × (o ≡ some a) × (a .state ≡ s) × (a .tick ≡ t)
 valid-end s t none h = absurd (false≢true h)
-valid-end s t (some a) h = (a, refl)
+valid-end s t (some a) h = (a, refl, eqb-true _ _ (every-at _ h 0), eqb-true _ _ (every-at _ h 1))
 
 -- what a valid light's head gives to the marking
 module _ (file : List ℕ) (f : Free) (light : List ℕ) (lit : isLight light ≡ true) (valid : lightValid (siteOf file) f (lightOf light) ≡ true)
@@ -125,7 +128,7 @@ module _ (file : List ℕ) (f : Free) (light : List ℕ) (lit : isLight light �
   unfolding lightValid planEnd
   valid-start =
       let l = lightOf light in
-      let (b, ends) = valid-end (l .goal) (l .arrival) (planEnd (siteOf file) f (startOf l) (l .steps)) valid in
+      let (b, ends, state, tick) = valid-end (l .goal) (l .arrival) (planEnd (siteOf file) f (startOf l) (l .steps)) (every-at _ valid 0) in
       let ok = when-test _ (walk (siteOf file) f (l .steps) (startOf l)) ends in
       start-known file f start (ap (startFree (siteOf file) f) begins ∙ ok)
 
@@ -134,24 +137,46 @@ module _ (file : List ℕ) (f : Free) (light : List ℕ) (lit : isLight light �
   valid-steps =
       let l = lightOf light in
       let site = siteOf file in
-      let (b, ends) = valid-end (l .goal) (l .arrival) (planEnd site f (startOf l) (l .steps)) valid in
+      let (b, ends, state, tick) = valid-end (l .goal) (l .arrival) (planEnd site f (startOf l) (l .steps)) (every-at _ valid 0) in
       let led = when-value (startFree site f (startOf l)) (walk site f (l .steps) (startOf l)) ends in
       subst (InTime site (stepsFrom light firstStep)) (sym begins)
       (subst (λ (ps : List Plan.Step). InTime site ps (startOf l)) (sym (accepted light lit .steps)) (walk-in-time site f (l .steps) (startOf l) b led))
 
--- the start's pair, and then the steps'
-pub light-marks : (site : Site) (light : List ℕ) (hd : Head) (start : Node) (old mid new : List ℕ) → isLight light ≡ true → hd ≡ headOf (lightOf light)
-    → nodeOf start ≡ startIn hd → mid ≡ mark site (hd .tug) (stepPairs site (wait 0) (nodeOf start)) old
-    → new ≡ mark site (hd .tug) (walkPairs site (stepsFrom light firstStep) (nodeOf start)) mid
+-- and to that of its unloading
+pub valid-dock : (file : List ℕ) → WellFormed (siteOf file) → (f : Free) (light : List ℕ) → lightValid (siteOf file) f (lightOf light) ≡ true
+    → (hd : Head) → hd ≡ headOf (lightOf light) → (goal : Node) → nodeOf goal ≡ goalIn hd
+    → Here file goal × (goal .tick .0 + hd .dwell ≤ siteOf file .horizon)
+unfolding lightValid
+valid-dock file well f light valid hd e goal g =
+    let l = lightOf light in
+    let (b, ends, state, tick) = valid-end (l .goal) (l .arrival) (planEnd (siteOf file) f (startOf l) (l .steps)) (every-at _ valid 0) in
+    let (known, early) = end-known (siteOf file) well f (startOf l) (l .steps) b ends in
+    let there : nodeOf goal ≡ goalOf l = g ∙ ap goalIn e in
+    let same-state : goal .state ≡ l .goal = ap (λ (a : Plan.Node). a .state) there in
+    let same-tick : goal .tick .0 ≡ l .arrival = ap (λ (a : Plan.Node). a .tick) there in
+    let same-dwell : hd .dwell ≡ l .dwell = ap (λ (h : Head). h .dwell) e in
+    let in-time : l .arrival + l .dwell ≤ siteOf file .horizon = can-unload (siteOf file) f (goalOf l) (l .dwell) (every-at _ valid 1) .in-time in
+    (record { state = omega arith; tick = omega arith }, omega arith)
+
+-- the start's pair, then the steps', then those of the unloading
+pub light-marks : (site : Site) (light : List ℕ) (hd : Head) (start goal : Node) (old begun walked new : List ℕ) → isLight light ≡ true
+    → hd ≡ headOf (lightOf light) → nodeOf start ≡ startIn hd → nodeOf goal ≡ goalIn hd
+    → begun ≡ mark site (hd .tug) (stepPairs site (wait 0) (nodeOf start)) old
+    → walked ≡ mark site (hd .tug) (walkPairs site (stepsFrom light firstStep) (nodeOf start)) begun
+    → new ≡ mark site (hd .tug) (stepPairs site (wait (hd .dwell)) (nodeOf goal)) walked
     → new ≡ mark site (lightOf light .tug) (lightPairs site (lightOf light)) old
 unfolding planPairs
-light-marks site light hd start old mid new lit e s p q =
+light-marks site light hd start goal old begun walked new lit e s g p q r =
     let l = lightOf light in
     let begins : nodeOf start ≡ startOf l = s ∙ ap startIn e in
+    let ends : nodeOf goal ≡ goalOf l = g ∙ ap goalIn e in
     let one : suc (l .tick + 0) - l .tick ≡ 1 = omega arith in
     let pair : stepPairs site (wait 0) (startOf l) ≡ record { cell = cellOf site (l .start); tick = l .tick } ∷ [] = ap (run (cellOf site (l .start)) (l .tick)) one in
-    let tug : hd .tug ≡ l .tug = ap (λ (x : Head). x .tug) e in
-    q
-    ∙ ap (mark site (hd .tug) (walkPairs site (stepsFrom light firstStep) (nodeOf start))) p
-    ∙ (λ i. mark site (tug i) (walkPairs site (accepted light lit .steps i) (begins i)) (mark site (tug i) (stepPairs site (wait 0) (begins i)) old))
-    ∙ ap (λ (ps : List Pair). mark site (l .tug) (walkPairs site (l .steps) (startOf l)) (mark site (l .tug) ps old)) pair
+    let steps : List Pair = walkPairs site (l .steps) (startOf l) in
+    let dock : List Pair = stepPairs site (wait (l .dwell)) (goalOf l) in
+    let first : List ℕ = mark site (l .tug) (record { cell = cellOf site (l .start); tick = l .tick } ∷ []) old in
+    let begun-is : begun ≡ first =
+    p ∙ (λ i. mark site (e i .tug) (stepPairs site (wait 0) (begins i)) old) ∙ ap (λ (ps : List Pair). mark site (l .tug) ps old) pair in
+    let walked-is : walked ≡ mark site (l .tug) steps first =
+    q ∙ (λ i. mark site (e i .tug) (walkPairs site (accepted light lit .steps i) (begins i)) (begun-is i)) in
+    r ∙ (λ i. mark site (e i .tug) (stepPairs site (wait (e i .dwell)) (ends i)) (walked-is i)) ∙ sym (mark-append site (l .tug) steps dock first)

@@ -109,7 +109,7 @@ fn mark_steps(
     }
 }
 
-// Marks what a valid light holds: its start, which is a wait of no ticks, and its steps.
+// Marks what a valid light holds: its start, which is a wait of no ticks, its steps, and its unloading, which holds what a wait does.
 pub fn mark_light(
     file: &[u8],
     board: &mut [u8],
@@ -134,4 +134,6 @@ pub fn mark_light(
         start,
         head.tug,
     );
+    let goal = plan_check::goal_of(head);
+    mark_wait(file, board, sizes, goal, Span(head.dwell as u32), head.tug);
 }

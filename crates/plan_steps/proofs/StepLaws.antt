@@ -1,8 +1,8 @@
--- When a step is allowed, by the tests in the order that the code has them.
+-- When a step or the unloading is allowed, by the tests in the order that the code has them.
 -- Assumes nothing.
 use Prim.Native.Nat.{ℕ, _+_, _≤_, _<_}
 use native.Mathlib.Omega.{arith}
-use mathlib.Core.Path.{_≡_}
+use mathlib.Core.Path.{_≡_, refl}
 use mathlib.Core.Bool.{Bool, true, false, and-true}
 use mathlib.Core.List.{[], _∷_}
 use lib.Dec.{leb}
@@ -11,7 +11,7 @@ use borrow.Author.Tests.{le-leb, lt-leb, lt-ltb, le-ltb, eq-eqb, ne-eqb}
 use Rattle.meaning.specs.Basics.{every}
 use Rattle.meaning.specs.Site.{Site, cellOf, stateAt, motionAt}
 use Rattle.meaning.specs.Board.{Free}
-use Rattle.meaning.specs.Plan.{Node, wait, move, freeFromTo, sweepsFree, allowed}
+use Rattle.meaning.specs.Plan.{Node, wait, move, freeFromTo, sweepsFree, allowed, canUnload}
 use Rattle.meaning.proofs.BasicsLaws.{every-fails}
 
 -- ---- tests in a row
@@ -19,6 +19,14 @@ use Rattle.meaning.proofs.BasicsLaws.{every-fails}
 every-third : (w x y z : Bool) → w ≡ true → x ≡ true → z ≡ true → every (w ∷ x ∷ y ∷ z ∷ []) ≡ y
 unfolding every
 every-third w x y z p q r = rw (p, q, r) (and-true y)
+
+every-first : (y z : Bool) → z ≡ true → every (y ∷ z ∷ []) ≡ y
+unfolding every
+every-first y z r = rw r (and-true y)
+
+every-behind : (w x y z : Bool) → w ≡ true → x ≡ true → every (w ∷ x ∷ y ∷ z ∷ []) ≡ every (y ∷ z ∷ [])
+unfolding every
+every-behind w x y z p q = rw (p, q) refl
 
 -- a test of a number against the horizon, as the code has the two
 same-leb : (t u h k : ℕ) (b : Bool) → u ≡ t → h ≡ k → leb u k ≡ b → leb t h ≡ b
@@ -36,14 +44,20 @@ module _ (site : Site) (f : Free) (a : Node) where
     unfolding allowed
     wait-rolling h = every-fails _ 1 (ne-eqb _ _ h)
 
-    pub wait-late : (u h : ℕ) → u ≡ a .tick + n → site .horizon ≡ h → leb u h ≡ false → allowed site f (wait n) a ≡ false
-    unfolding allowed
-    wait-late u h p q e = every-fails _ 3 (same-leb _ u _ h false p q e)
+    pub wait-stays : (n ≡ 0 → ⊥) → stateAt site (a .state) .speed ≡ 0 → allowed site f (wait n) a ≡ canUnload site f a n
+    unfolding allowed canUnload
+    wait-stays pos stand = every-behind _ _ _ _ (le-leb 1 n (omega arith)) (eq-eqb _ _ stand)
 
-    pub wait-is : (u h : ℕ) → (n ≡ 0 → ⊥) → stateAt site (a .state) .speed ≡ 0 → u ≡ a .tick + n → site .horizon ≡ h → leb u h ≡ true
-        → allowed site f (wait n) a ≡ freeFromTo f (cellOf site (a .state)) (a .tick) (a .tick + n)
-    unfolding allowed
-    wait-is u h pos stand p q e = every-third _ _ _ _ (le-leb 1 n (omega arith)) (eq-eqb _ _ stand) (same-leb _ u _ h true p q e)
+    -- ---- staying
+
+    pub stay-late : (u h : ℕ) → u ≡ a .tick + n → site .horizon ≡ h → leb u h ≡ false → canUnload site f a n ≡ false
+    unfolding canUnload
+    stay-late u h p q e = every-fails _ 1 (same-leb _ u _ h false p q e)
+
+    pub stay-is : (u h : ℕ) → u ≡ a .tick + n → site .horizon ≡ h → leb u h ≡ true
+        → canUnload site f a n ≡ freeFromTo f (cellOf site (a .state)) (a .tick) (a .tick + n)
+    unfolding canUnload
+    stay-is u h p q e = every-first _ _ (same-leb _ u _ h true p q e)
 
   -- ---- a motion
 

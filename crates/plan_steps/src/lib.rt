@@ -1,4 +1,4 @@
-// Steps of a plan: is a wait or a motion allowed on the board, and where does it lead.
+// Steps of a plan: is a wait, a motion or the unloading allowed on the board, and where does a step lead.
 use site::Sizes;
 use site_read::Motion;
 use site_sweeps::Sweep;
@@ -9,7 +9,7 @@ ghost use Prim.Native.Nat.{ℕ, _+_, _<_, _≤_};
 ghost use lib.ListN.{length};
 ghost use Rattle.meaning.specs.Site.{siteOf, motionAt};
 ghost use Rattle.meaning.specs.Board.{free};
-ghost use Rattle.meaning.specs.Plan.{freeFromTo, sweepsFree, wait, move, allowed};
+ghost use Rattle.meaning.specs.Plan.{freeFromTo, sweepsFree, wait, move, allowed, canUnload};
 ghost use Rattle.site_sweeps.specs.Places.{sweepsAt};
 ghost use Rattle.site_read.specs.Motions.{MotionIs};
 ghost use Rattle.site.specs.Ready.{Ready};
@@ -72,21 +72,14 @@ fn sweeps_free(file: &[u8], board: &[u8], sizes: Sizes, m: Motion, t: Tick) -> b
     true
 }
 
-// A wait of `n` ticks at `a` is allowed.
-pub fn wait_allowed(file: &[u8], board: &[u8], sizes: Sizes, a: Node, n: Span) -> bool
+// The cell of `a` is free from its tick on, for `n` ticks and the one at which they end, which is not past the horizon.
+pub fn can_stay(file: &[u8], board: &[u8], sizes: Sizes, a: Node, n: Span) -> bool
     requires { ⌜ Ready (now file) (length (now board)) sizes × Here (now file) a × (n .0 < 65536) ⌝ }
-    ensures { λ r. ⌜ r ≡ allowed (siteOf (now (file .entry))) (free (siteOf (now (file .entry))) (now (board .entry))) (wait (n .0)) (nodeOf a) ⌝ }
+    ensures { λ r. ⌜ r ≡ canUnload (siteOf (now (file .entry))) (free (siteOf (now (file .entry))) (now (board .entry))) (nodeOf a) (n .0) ⌝ }
 {
-    if n.0 == 0 {
-        return false;
-    }
-    let state = a.state;
-    if site_read::state_speed(file, state) != 0 {
-        return false;
-    }
     let last = time::after(a.tick, n);
     if time::in_time(last, sizes.horizon) {
-        let cell = site_read::state_cell(file, state);
+        let cell = site_read::state_cell(file, a.state);
         board_ticks::run_free(
             board,
             sizes.horizon,
@@ -97,6 +90,20 @@ pub fn wait_allowed(file: &[u8], board: &[u8], sizes: Sizes, a: Node, n: Span) -
     } else {
         false
     }
+}
+
+// A wait of `n` ticks at `a` is allowed.
+pub fn wait_allowed(file: &[u8], board: &[u8], sizes: Sizes, a: Node, n: Span) -> bool
+    requires { ⌜ Ready (now file) (length (now board)) sizes × Here (now file) a × (n .0 < 65536) ⌝ }
+    ensures { λ r. ⌜ r ≡ allowed (siteOf (now (file .entry))) (free (siteOf (now (file .entry))) (now (board .entry))) (wait (n .0)) (nodeOf a) ⌝ }
+{
+    if n.0 == 0 {
+        return false;
+    }
+    if site_read::state_speed(file, a.state) != 0 {
+        return false;
+    }
+    can_stay(file, board, sizes, a, n)
 }
 
 // The motion `m`, whatever its number, is allowed at `a`.

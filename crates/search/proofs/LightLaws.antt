@@ -37,7 +37,7 @@ module _ (file board : List ℕ) (l : Sizes) (trip : Trip) (q : Asked file l (le
 
     pub fits : (count ≤ horizonLimit) × (arrival ≤ horizonLimit) × (lightLength count ≤ lightRoom (siteOf file))
     fits =
-        let (laid, named, late, in-time) = found-steps (siteOf file) (well file (q .ready .read)) (free (siteOf file) board) (node (trip .start) (trip .tick)) (trip .goal) route route-is in
+        let (laid, named, late, in-time) = found-steps (siteOf file) (well file (q .ready .read)) (free (siteOf file) board) (node (trip .start) (trip .tick)) (trip .goal) (trip .dwell) route route-is in
         let many = length-steps path count in
         let few = well file (q .ready .read) .horizon-range in
         (omega arith, omega arith, omega arith)
@@ -45,7 +45,7 @@ module _ (file board : List ℕ) (l : Sizes) (trip : Trip) (q : Asked file l (le
     -- the light with the plan's steps, made from the edition e
     abbrev written : ℕ → ℕ → Light
     written e tug =
-        record { edition = e; tug = tug; start = trip .start; tick = trip .tick; goal = trip .goal; arrival = arrival; steps = stepsIn path count }
+        record { edition = e; tug = tug; start = trip .start; tick = trip .tick; goal = trip .goal; arrival = arrival; dwell = trip .dwell; steps = stepsIn path count }
 
     light-is : (tug : ℕ) → lightOn file board tug trip ≡ written (edition board) tug
     unfolding grantedLight bytesView

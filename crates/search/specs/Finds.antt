@@ -15,7 +15,7 @@ use Rattle.search.specs.declared.Found.the-variants as Found
 
 -- the light of the trip on the board
 abbrev pub lightOn : List ℕ → List ℕ → ℕ → Trip → Light
-lightOn file board tug trip = grantedLight (siteOf file) (bytesView (siteOf file) board) tug (node (trip .start) (trip .tick)) (trip .goal)
+lightOn file board tug trip = grantedLight (siteOf file) (bytesView (siteOf file) board) tug (node (trip .start) (trip .tick)) (trip .goal) (trip .dwell)
 
 -- the answer: the light's length and its arrival
 unfoldable pub foundOf : Option Route → Light → Found

@@ -1,4 +1,4 @@
-// The search of a route call: the light of the plan with the least arrival.
+// The search of a route call: the light of the plan with the least arrival from which the tug can unload.
 use light::Head;
 use light_write::CODE_LIMIT;
 use search_plan::Traced;
@@ -18,7 +18,7 @@ pub enum Found {
     Nothing,
 }
 
-// Writes the light of the plan with the least arrival.
+// Writes the light of the plan with the least arrival from which the tug can unload.
 pub fn find(file: &[u8], sizes: Sizes, board: &[u8], tug: u8, trip: Trip, out: &mut [u8]) -> Found
     requires { ⌜ Asked (now file) sizes (length (now board)) trip × (lightRoom (siteOf (now file)) ≤ length (now out)) ⌝ }
     ensures { λ r. ⌜ r ≡ foundOf (routeOn (now (file .entry)) (now (board .entry)) trip) (lightOn (now (file .entry)) (now (board .entry)) tug trip) ⌝ }
@@ -35,6 +35,7 @@ pub fn find(file: &[u8], sizes: Sizes, board: &[u8], tug: u8, trip: Trip, out: &
                 tick: trip.tick,
                 goal: trip.goal,
                 arrival: arrival as u16,
+                dwell: trip.dwell,
             };
             light_write::write_light(out, &path, count, head);
             Found::Route(light::length_of(count) as u16, arrival as u16)

@@ -1,2 +1,3 @@
+pub mod ArrivalLaws
 pub mod WordLaws
 pub mod SetsLaws

@@ -1,4 +1,4 @@
--- The word from the sets is the table's word, and the first tick of the goal's row.
+-- The word from the sets is the table's word.
 -- Assumes nothing.
 use Prim.Native.Nat.{ℕ, zero, suc, _+_, _-_, _≤_, _<_}
 use native.Mathlib.Numerals.{add-one}
@@ -24,7 +24,7 @@ use Rattle.search_ticks.specs.Rows.{has}
 use Rattle.search_site.specs.Arrays.{cellAt, speedAt, fromAt, toAt, spanAt}
 use Rattle.search_reach.specs.Reached.{reachedAt, ReachedRows}
 use Rattle.search_reach.proofs.LeastLaws.{wait-made, wait-stands, wait-both, move-made, move-free}
-use Rattle.search_back.specs.Words.{waitHit, moveHit, firstMove, wordAt, arrivalIn, Sets}
+use Rattle.search_back.specs.Words.{waitHit, moveHit, firstMove, wordAt, Sets}
 
 -- ---- conjunctions
 
@@ -233,51 +233,3 @@ module _ (st mv fr al re : List ℕ) (k tick s t : ℕ) where
       → r ≡ reachWord site f (at start tick) (t - tick) s
   word-says n r below late e site f start sw well in-time sets =
       e ∙ word-right site well f (at start tick) n k st mv sw fr al re sets s t below late in-time (well .horizon-range .1)
-
--- ---- the arrival, as ticks after the start
-
-abbrev later : ℕ → Option ℕ → Option ℕ
-later d none = none
-later d (some k) = some (d + k)
-
-least-later : (p : ℕ → Bool) (d i n : ℕ) → least p (d + i) n ≡ later d (least (λ (k : ℕ). p (d + k)) i n)
-least-later p d i zero = refl
-least-later p d i (suc n) =
-    let next : suc (d + i) ≡ d + suc i = omega arith in
-    decide (p (d + i))
-    (λ e. simp e)
-    (λ e. simp e (ap (λ (j : ℕ). least p j n) next ∙ least-later p d (suc i) n))
-
-earlier : (d r : ℕ) (o : Option ℕ) → later d o ≡ some r → o ≡ some (r - d)
-earlier d r none e = let z : _≡_ {A = ℕ} 0 1 = cc in absurd (omega arith)
-earlier d r (some k) e =
-    let same : d + k ≡ r = cc in
-    let back : k ≡ r - d = omega arith in
-    ap (λ (j : ℕ). some j) back
-
-never : (d : ℕ) (o : Option ℕ) → later d o ≡ none → o ≡ none
-never d none e = refl
-never d (some k) e = let z : _≡_ {A = ℕ} 0 1 = cc in absurd (omega arith)
-
-pub arrival-says : (re : List ℕ) (goal tick horizon r : ℕ) → tick ≤ horizon → least (has re goal) tick (horizon + 1 - tick) ≡ cond (leb r horizon) (some r) none
-    → (site : Site) (f : Free) (start : ℕ) → WellFormed site → site .horizon ≡ horizon → ReachedRows site f (at start tick) re
-    → arrivalIn site f (at start tick) (horizon - tick) goal ≡ cond (leb r horizon) (some (r - tick)) none
-arrival-says re goal tick horizon r early e site f start well same-horizon rows =
-    let a : Node = at start tick in
-    let n : ℕ = horizon - tick in
-    let few : site .horizon ≤ horizonLimit = well .horizon-range .1 in
-    let size : horizon + 1 - tick ≡ suc (horizon - tick) = omega arith in
-    let from : tick + 0 ≡ tick = omega arith in
-    let there : ℕ → Bool = λ (k : ℕ). not (isZero (wordIn (rowsTo site f (at start tick) (horizon - tick)) (horizon - tick) k goal)) in
-    let bits : (j : ℕ) → j < 0 + suc (horizon - tick) → has re goal (tick + j) ≡ there j =
-    λ j lt.
-    let since : tick + j - tick ≡ j = omega arith in
-    rows goal (tick + j) (omega arith)
-    ∙ rw (le-leb tick (tick + j) (omega arith), since) (ap (λ (w : ℕ). not (isZero w)) (sym (word-row site well f (at start tick) (horizon - tick) j goal (omega arith)))) in
-    let shifted : later tick (arrivalIn site f (at start tick) (horizon - tick) goal) ≡ cond (leb r horizon) (some r) none =
-    ap (later tick) (sym (least-same (λ (j : ℕ). has re goal (tick + j)) there 0 (suc (horizon - tick)) bits))
-    ∙ sym (least-later (has re goal) tick 0 (suc (horizon - tick)))
-    ∙ ap₂ (λ (i j : ℕ). least (has re goal) i j) from (sym size) ∙ e in
-    decide (leb r horizon)
-    (λ h. rw h (earlier tick r _ (rw h at shifted)))
-    (λ h. rw h (never tick _ (rw h at shifted)))

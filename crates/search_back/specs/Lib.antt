@@ -1,1 +1,2 @@
+pub mod Arrivals
 pub mod Words

@@ -1,16 +1,16 @@
 -- The back pointer of a pair from the sets of ticks, and the sets of a search.
 -- Assumes nothing.
-use Prim.Native.Nat.{ℕ, suc, _-_, _<_}
+use Prim.Native.Nat.{ℕ, _-_, _<_}
 use mathlib.Core.Path.{_≡_}
-use mathlib.Core.Bool.{Bool, cond, _&&_, not}
+use mathlib.Core.Bool.{Bool, cond, _&&_}
 use mathlib.Core.Option.{Option}
 use mathlib.Core.List.{List}
 use lib.Dec.{leb, ltb, eqb}
-use Rattle.meaning.specs.Basics.{least, isZero}
+use Rattle.meaning.specs.Basics.{least}
 use Rattle.meaning.specs.Site.{Site, motionAt}
 use Rattle.meaning.specs.Board.{Free}
 use Rattle.meaning.specs.Plan.{Node, sweepsFree}
-use Rattle.meaning.specs.Reach.{wordBy, rowsTo, wordIn}
+use Rattle.meaning.specs.Reach.{wordBy}
 use Rattle.search_sizes.specs.Sizes.{rowTicks}
 use Rattle.search_ticks.specs.Rows.{has}
 use Rattle.search_site.specs.Arrays.{cellAt, speedAt, fromAt, toAt, spanAt}
@@ -31,10 +31,6 @@ firstMove mv al re k s t = least (moveHit mv al re s t) 0 k
 -- the word of a pair: at the start tick 1 or 0; later by a wait, or by the lowest motion
 unfoldable pub wordAt : List ℕ → List ℕ → List ℕ → List ℕ → List ℕ → ℕ → ℕ → ℕ → ℕ → ℕ
 wordAt st mv fr al re k tick s t = cond (ltb tick t) (wordBy (waitHit st fr re s t) (firstMove mv al re k s t)) (cond (has re s t) 1 0)
-
--- the ticks after the start at which the table up to n ticks after it first has the goal
-abbrev pub arrivalIn : Site → Free → Node → ℕ → ℕ → Option ℕ
-arrivalIn site f a n goal = least (λ (k : ℕ). not (isZero (wordIn (rowsTo site f a n) n k goal))) 0 (suc n)
 
 -- the arrays hold the site, and the rows hold its free ticks, allowed starts and reached pairs
 pub record Sets (site : Site) (f : Free) (a : Node) (n k : ℕ) (st mv sw fr al re : List ℕ) : Type 0 where

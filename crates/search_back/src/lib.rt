@@ -1,38 +1,76 @@
-// What the sets of a search say: the arrival, and the back pointer of a pair.
+// What the sets of a search say: the arrival from which the tug can unload, and the back pointer of a pair.
 ghost use mathlib.Core.Path.{_≡_};
-ghost use mathlib.Core.Bool.{cond, false};
+ghost use mathlib.Core.Bool.{cond, false, _&&_};
 ghost use mathlib.Core.Option.{none, some};
 ghost use mathlib.Core.List.{List};
 ghost use Prim.Native.Nat.{ℕ, _+_, _*_, _-_, _≤_, _<_};
-ghost use lib.Dec.{leb};
+ghost use lib.Dec.{leb, ltb};
 ghost use lib.ListN.{length};
 ghost use Rattle.meaning.specs.Limits.{horizonLimit};
-ghost use Rattle.meaning.specs.Site.{Site};
+ghost use Rattle.meaning.specs.Site.{Site, cellOf};
 ghost use Rattle.meaning.specs.Board.{Free};
 ghost use Rattle.meaning.specs.WellFormed.{WellFormed};
 ghost use Rattle.meaning.specs.Reach.{wordBy, reachWord};
 ghost use Rattle.meaning.specs.Plan.{node};
 ghost use Rattle.search_sizes.specs.Sizes.{rowWords, rowTicks, freeWords, reachedWords};
+ghost use Rattle.search_ticks.specs.Rows.{has};
 ghost use Rattle.search_site.specs.Arrays.{States, Motions};
 ghost use Rattle.search_reach.specs.Reached.{ReachedRows};
-ghost use Rattle.search_back.specs.Words.{waitHit, moveHit, firstMove, arrivalIn, Sets};
+ghost use Rattle.search_back.specs.Arrivals.{arrivalIn};
+ghost use Rattle.search_back.specs.Words.{waitHit, moveHit, firstMove, Sets};
 
-// The first tick from `tick` on at which the goal is reached, or the tick after the horizon.
-pub fn arrival(reached: &[u64], goal: usize, tick: usize, horizon: usize) -> usize
-    requires { ⌜ (goal * rowWords + rowWords ≤ length (now reached)) × ((tick ≤ horizon) × (horizon ≤ horizonLimit)) ⌝ }
-    ensures { λ r. ⌜ tick ≤ r ⌝ }
-    ensures { λ r. ⌜ ((site : Site) (f : Free) (start : ℕ) → WellFormed site → site .horizon ≡ horizon
-        → ReachedRows site f (node start tick) (now (reached .entry))
-        → arrivalIn site f (node start tick) (horizon - tick) goal ≡ cond (leb r horizon) (some (r - tick)) none) ⌝ }
+// How many ticks from t on the cell is free without a gap, where `later` is that number from the next tick on.
+fn free_run(frees: &[u64], cell: usize, t: usize, later: usize) -> usize
+    requires { ⌜ (cell * rowWords + rowWords ≤ length (now frees)) × ((t < rowTicks) × (later ≤ rowTicks)) ⌝ }
+    ensures { λ r. ⌜ r ≡ cond (has (now (frees .entry)) cell t) (later + 1) 0 ⌝ }
 {
-    let mut t = tick;
-    while t <= horizon {
-        if search_ticks::is_set(reached, goal, t) {
-            return t;
-        }
-        t += 1;
+    if search_ticks::is_set(frees, cell, t) {
+        return later + 1;
     }
-    t
+    0
+}
+
+// Whether the goal is reached at t, and more than `dwell` ticks from there on are free, of which there are `run`.
+fn can_end(reached: &[u64], goal: usize, t: usize, dwell: usize, run: usize) -> bool
+    requires { ⌜ (goal * rowWords + rowWords ≤ length (now reached)) × (t < rowTicks) ⌝ }
+    ensures { λ r. ⌜ r ≡ (has (now (reached .entry)) goal t && ltb dwell run) ⌝ }
+{
+    if run <= dwell {
+        return false;
+    }
+    search_ticks::is_set(reached, goal, t)
+}
+
+// The first tick from `tick` on at which the goal is reached and its cell is free for the dwell, which ends by the horizon; or the
+// tick after the horizon. The ticks are looked at from the last to the first, so that one look at each tells how long it stays free.
+pub fn arrival(
+    reached: &[u64],
+    frees: &[u64],
+    goal: usize,
+    cell: usize,
+    tick: usize,
+    dwell: usize,
+    horizon: usize,
+) -> usize
+    requires { ⌜ (goal * rowWords + rowWords ≤ length (now reached)) × (cell * rowWords + rowWords ≤ length (now frees)) ⌝ }
+    requires { ⌜ (tick ≤ horizon) × (horizon ≤ horizonLimit) ⌝ }
+    ensures { λ r. ⌜ tick ≤ r ⌝ }
+    ensures { λ r. ⌜ ((site : Site) (f : Free) (start : ℕ) → WellFormed site → site .horizon ≡ horizon → cellOf site goal ≡ cell
+        → ((c t : ℕ) → t < rowTicks → has (now (frees .entry)) c t ≡ f c t)
+        → ReachedRows site f (node start tick) (now (reached .entry))
+        → arrivalIn site f (node start tick) (horizon - tick) goal dwell ≡ cond (leb r horizon) (some (r - tick)) none) ⌝ }
+{
+    let mut t = horizon + 1;
+    let mut run = 0;
+    let mut first = t;
+    while tick < t {
+        t -= 1;
+        run = free_run(frees, cell, t, run);
+        if can_end(reached, goal, t, dwell, run) {
+            first = t;
+        }
+    }
+    first
 }
 
 // Whether a one-tick wait from a reached pair ends in (s, t).

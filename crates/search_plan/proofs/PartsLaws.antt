@@ -9,19 +9,20 @@ use mathlib.Core.List.{List}
 use lib.Dec.{leb}
 use lib.ListN.{length}
 use Rattle.meaning.specs.Limits.{horizonLimit, cellLimit, stateLimit, header, motionLimit}
-use Rattle.meaning.specs.Site.{Site, siteOf}
+use Rattle.meaning.specs.Site.{Site, siteOf, cellOf}
 use Rattle.meaning.specs.WellFormed.{WellFormed}
 use Rattle.meaning.specs.Board.{Free, free}
 use Rattle.meaning.proofs.CallLaws.{named-start, named-tick, named-goal}
 use Rattle.meaning.specs.Plan.{node}
 use Rattle.site.specs.declared.Sizes.{Sizes}
 use Rattle.site.specs.declared.Trip.{Trip}
-use Rattle.search_sizes.specs.Sizes.{motionNumbers, stateNumbers}
-use Rattle.search_ticks.specs.Rows.{rowsFree}
+use Rattle.search_sizes.specs.Sizes.{rowTicks, motionNumbers, stateNumbers}
+use Rattle.search_ticks.specs.Rows.{has, rowsFree}
 use Rattle.search_site.specs.Arrays.{cellAt, States, Motions}
 use Rattle.search_step.specs.Sets.{Closed, Explored}
 use Rattle.search_reach.specs.Reached.{Starts, ReachedRows}
-use Rattle.search_back.specs.Words.{arrivalIn, Sets}
+use Rattle.search_back.specs.Arrivals.{arrivalIn}
+use Rattle.search_back.specs.Words.{Sets}
 use Rattle.search_back.proofs.SetsLaws.{sets-right}
 use Rattle.light_write.specs.Codes.{stepsIn}
 use Rattle.search_trace.specs.Turns.{Search, Found}
@@ -55,6 +56,9 @@ module _ (file board : List ℕ) (l : Sizes) (trip : Trip) (q : Asked file l (le
   abbrev goal : ℕ
   goal = trip .goal
 
+  abbrev dwell : ℕ
+  dwell = trip .dwell
+
   abbrev site : Site
   site = siteOf file
 
@@ -86,9 +90,9 @@ module _ (file board : List ℕ) (l : Sizes) (trip : Trip) (q : Asked file l (le
       let k = same-motions in
       record {
         short = omega (arith, w .horizon-range);
-        in-time = omega (arith, named-tick site (node start tick) goal (q .named));
-        start-below = omega (arith, named-start site (node start tick) goal (q .named));
-        goal-below = omega (arith, named-goal site (node start tick) goal (q .named));
+        in-time = omega (arith, named-tick site (node start tick) goal dwell (q .named));
+        start-below = omega (arith, named-start site (node start tick) goal dwell (q .named));
+        goal-below = omega (arith, named-goal site (node start tick) goal dwell (q .named));
         states-few = omega (arith, w .states-range);
         motions-few = omega (arith, w .motions-range);
       }
@@ -115,26 +119,29 @@ module _ (file board : List ℕ) (l : Sizes) (trip : Trip) (q : Asked file l (le
       → Explored (Closed (l .states) (l .motions) st mv fr al) fr (cellAt st start) start tick re → SetsOn file board l trip st mv fr al re
   sets-in st mv fr al re states motions frees starts explored =
       sets-right site site-well board (l .states) (l .motions) st mv file fr al re start tick
-      (decoded file (q .ready .read) st mv states motions (l .states) (l .motions) same-states same-motions) (frees site same-cells same-horizon) starts (ranges .start-below) (named-tick site (node start tick) goal (q .named)) explored
+      (decoded file (q .ready .read) st mv states motions (l .states) (l .motions) same-states same-motions) (frees site same-cells same-horizon) starts (ranges .start-below) (named-tick site (node start tick) goal dwell (q .named)) explored
 
   -- ---- the plan
 
-  module _ (st mv fr al re : List ℕ) (sets : SetsOn file board l trip st mv fr al re) (arrival : ℕ)
-      (first : (s : Site) (g : Free) (b : ℕ) → WellFormed s → s .horizon ≡ l .horizon → ReachedRows s g (node b tick) re
-      → arrivalIn s g (node b tick) (l .horizon - tick) goal ≡ cond (leb arrival (l .horizon)) (some (arrival - tick)) none) where
-    arrives : arrivalIn site f (node start tick) (l .horizon - tick) goal ≡ cond (leb arrival (l .horizon)) (some (arrival - tick)) none
-    arrives = first site f start site-well same-horizon (sets .reached)
+  module _ (st mv fr al re : List ℕ) (sets : SetsOn file board l trip st mv fr al re) (cell arrival : ℕ)
+      (same-cell : cell ≡ cellAt st goal)
+      (first : (s : Site) (g : Free) (b : ℕ) → WellFormed s → s .horizon ≡ l .horizon → cellOf s goal ≡ cell
+      → ((c t : ℕ) → t < rowTicks → has fr c t ≡ g c t) → ReachedRows s g (node b tick) re
+      → arrivalIn s g (node b tick) (l .horizon - tick) goal dwell ≡ cond (leb arrival (l .horizon)) (some (arrival - tick)) none) where
+    arrives : arrivalIn site f (node start tick) (l .horizon - tick) goal dwell ≡ cond (leb arrival (l .horizon)) (some (arrival - tick)) none
+    arrives =
+        first site f start site-well same-horizon (sym (same-cell ∙ sets .decoded .cell goal (ranges .goal-below))) (sets .frees) (sets .reached)
 
     pub missing : (path : List ℕ) → l .horizon < arrival → Planned (routeOn file board trip) path Missing
     unfolding Planned
-    missing path late = route-nowhere site f start tick goal arrival (l .horizon) same-horizon arrives late
+    missing path late = route-nowhere site f start tick goal dwell arrival (l .horizon) same-horizon arrives late
 
     abbrev answered : Search
-    answered = record { site = site; free = f; start = start; sweeps = file; route = routeAfter site f (node start tick) goal (arrival - tick) }
+    answered = record { site = site; free = f; start = start; dwell = dwell; sweeps = file; route = routeAfter site f (node start tick) goal (arrival - tick) }
 
     module _ (later : tick ≤ arrival) (there : arrival ≤ l .horizon) where
       pub found : Found answered (l .states) (l .motions) st mv fr al re tick goal arrival
-      found = arrival-found site f start tick goal arrival (l .horizon) same-horizon arrives (l .states) (l .motions) st mv file fr al re site-well sets later there
+      found = arrival-found site f start tick goal dwell arrival (l .horizon) same-horizon arrives (l .states) (l .motions) st mv file fr al re site-well sets later there
 
       pub planned : (path : List ℕ) (count : ℕ)
           → ((x : Search) → Found x (l .states) (l .motions) st mv fr al re tick goal arrival → stepsIn path count ≡ x .route .steps)
@@ -143,5 +150,5 @@ module _ (file board : List ℕ) (l : Sizes) (trip : Trip) (q : Asked file l (le
       planned path count traced =
           let there-on : tick + (arrival - tick) ≡ arrival = omega arith in
           let same : stepsIn path count ≡ answered .route .steps = traced answered found in
-          route-there site f start tick goal arrival (l .horizon) same-horizon arrives there
+          route-there site f start tick goal dwell arrival (l .horizon) same-horizon arrives there
           ∙ ap some (λ i. record { steps = sym same i; arrival = there-on i })

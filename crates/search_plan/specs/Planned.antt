@@ -8,7 +8,7 @@ use mathlib.Core.List.{List}
 use Rattle.meaning.specs.Site.{siteOf}
 use Rattle.meaning.specs.Board.{free}
 use Rattle.meaning.specs.Reach.{Route, findRoute}
-use Rattle.meaning.specs.Calls.{startNamed}
+use Rattle.meaning.specs.Calls.{tripNamed}
 use Rattle.meaning.specs.Plan.{node}
 use Rattle.site.specs.Ready.{Ready}
 use Rattle.site.specs.declared.Sizes.{Sizes}
@@ -17,14 +17,14 @@ use Rattle.light_write.specs.Codes.{stepsIn}
 use Rattle.search_plan.specs.declared.Traced.{Traced}
 use Rattle.search_plan.specs.declared.Traced.the-variants.{Steps, Missing}
 
--- an accepted file with its sizes, a board of its length, and a trip whose states and tick are the site's
+-- an accepted file with its sizes, a board of its length, and a trip whose states and ticks may be named
 pub record Asked (file : List ℕ) (l : Sizes) (size : ℕ) (trip : Trip) : Type 0 where
   pub ready : Ready file size l
-  pub named : startNamed (siteOf file) (node (trip .start) (trip .tick)) (trip .goal) ≡ true
+  pub named : tripNamed (siteOf file) (node (trip .start) (trip .tick)) (trip .goal) (trip .dwell) ≡ true
 
 -- the route of the trip on the board
 abbrev pub routeOn : List ℕ → List ℕ → Trip → Option Route
-routeOn file board trip = findRoute (siteOf file) (free (siteOf file) board) (node (trip .start) (trip .tick)) (trip .goal)
+routeOn file board trip = findRoute (siteOf file) (free (siteOf file) board) (node (trip .start) (trip .tick)) (trip .goal) (trip .dwell)
 
 -- the plan says the route, whose steps are in the path
 unfoldable pub Planned : Option Route → List ℕ → Traced → Type 0

@@ -1,4 +1,4 @@
-// The plan with the least arrival on an accepted site, from all parts of the search.
+// The plan with the least arrival from which the tug can unload, on an accepted site, from all parts of the search.
 use light_write::CODE_LIMIT;
 use search_sizes::ALLOWED_WORDS;
 use site::Sizes;
@@ -12,7 +12,7 @@ pub enum Traced {
     Missing,
 }
 
-// The plan with the least arrival, its steps in `path`.
+// The plan with the least arrival from which the tug can unload, its steps in `path`.
 pub fn search(
     file: &[u8],
     sizes: Sizes,
@@ -31,6 +31,7 @@ pub fn search(
     let start = trip.start as usize;
     let tick = trip.tick as usize;
     let goal = trip.goal as usize;
+    let dwell = trip.dwell as usize;
     let reached = search_reach::explore(
         &states,
         &motions,
@@ -41,7 +42,8 @@ pub fn search(
         start,
         tick,
     );
-    let arrival = search_back::arrival(&reached, goal, tick, sizes.horizon);
+    let cell = search_site::cell_of(&states, sizes.states, goal);
+    let arrival = search_back::arrival(&reached, &frees, goal, cell, tick, dwell, sizes.horizon);
     if sizes.horizon < arrival {
         return Traced::Missing;
     }

@@ -51,7 +51,7 @@ module _ (n k : ℕ) (st mv fr al re : List ℕ) (tick goal arrival : ℕ) where
 
   pub going-first : (x : Search) → Found x n k st mv fr al re tick goal arrival → goal < n → Going goal arrival []
   going-first x h known =
-      let (laid, named, late, in-time) = found-steps (x .site) (h .well) (x .free) (node (x .start) tick) goal (x .route) (h .found) in
+      let (laid, named, late, in-time) = found-steps (x .site) (h .well) (x .free) (node (x .start) tick) goal (x .dwell) (x .route) (h .found) in
       let (low, most) = h .well .horizon-range in
       record {
         state = known;
@@ -63,8 +63,8 @@ module _ (n k : ℕ) (st mv fr al re : List ℕ) (tick goal arrival : ℕ) where
     where
       first : (x : Search) (h : Found x n k st mv fr al re tick goal arrival) → RestOf x h goal arrival []
       first x h =
-          let got : Arrives (x .site) (h .well) (x .free) (node (x .start) tick) goal (x .route) =
-          found-arrives (x .site) (h .well) (x .free) (node (x .start) tick) goal (x .route) (h .found) in
+          let got : Arrives (x .site) (h .well) (x .free) (node (x .start) tick) goal (x .dwell) (x .route) =
+          found-arrives (x .site) (h .well) (x .free) (node (x .start) tick) goal (x .dwell) (x .route) (h .found) in
           let same : got .after-start ≡ arrival - tick = omega (arith, got .on-tick, h .on-tick) in
           subst
           (λ (j : ℕ). Rest (x .site) (h .well) (x .free) (node (x .start) tick) (x .site .horizon - tick) (x .route .steps) j goal [])

@@ -22,6 +22,7 @@ pub record Search : Type 0 where
   pub site : Site
   pub free : Free
   pub start : ℕ
+  pub dwell : ℕ
   pub sweeps : List ℕ
   pub route : Route
 
@@ -29,5 +30,5 @@ pub record Search : Type 0 where
 pub record Found (x : Search) (n k : ℕ) (st mv fr al re : List ℕ) (tick goal arrival : ℕ) : Type 0 where
   pub well : WellFormed (x .site)
   pub sets : Sets (x .site) (x .free) (node (x .start) tick) n k st mv (x .sweeps) fr al re
-  pub found : findRoute (x .site) (x .free) (node (x .start) tick) goal ≡ some (x .route)
+  pub found : findRoute (x .site) (x .free) (node (x .start) tick) goal (x .dwell) ≡ some (x .route)
   pub on-tick : x .route .arrival ≡ arrival

@@ -4,7 +4,7 @@ ghost use mathlib.Core.Path.{_≡_};
 ghost use Prim.Native.Nat.{_≤_};
 ghost use lib.ListN.{length};
 ghost use Rattle.meaning.specs.Plan.{node};
-ghost use Rattle.meaning.specs.Calls.{startNamed};
+ghost use Rattle.meaning.specs.Calls.{tripNamed};
 ghost use Rattle.meaning.specs.Site.{Site, readSite};
 ghost use Rattle.site_layout.specs.Laid.{HeadIs, Laid};
 ghost use Rattle.site.specs.Check.{sizesOf, checkOf};
@@ -21,16 +21,20 @@ pub struct Sizes {
     pub start: usize,
 }
 
-// What a route is asked for: from a state at a tick to a goal state.
+// The most ticks that a tug may unload at its goal.
+const DWELL_LIMIT: u16 = 1000;
+
+// What a route is asked for: from a state at a tick to a goal state, and how long the tug unloads there.
 pub struct Trip {
     pub start: u16,
     pub tick: u16,
     pub goal: u16,
+    pub dwell: u16,
 }
 
-// The start state, the start tick and the goal state are the site's.
+// The start state, the start tick and the goal state are the site's, and the dwell is within its limit.
 pub fn trip_named(sizes: Sizes, trip: Trip) -> bool
-    ensures { λ r. ⌜ ((site : Site) → sizes ≡ sizesOf site → r ≡ startNamed site (node (trip .start) (trip .tick)) (trip .goal)) ⌝ }
+    ensures { λ r. ⌜ ((site : Site) → sizes ≡ sizesOf site → r ≡ tripNamed site (node (trip .start) (trip .tick)) (trip .goal) (trip .dwell)) ⌝ }
 {
     if sizes.states <= trip.start as usize {
         return false;
@@ -38,7 +42,10 @@ pub fn trip_named(sizes: Sizes, trip: Trip) -> bool
     if sizes.horizon < trip.tick as usize {
         return false;
     }
-    (trip.goal as usize) < sizes.states
+    if sizes.states <= trip.goal as usize {
+        return false;
+    }
+    trip.dwell <= DWELL_LIMIT
 }
 
 // What checks answer: all passed, with the sizes of the site, or the lowest number that applies.

@@ -6,22 +6,22 @@ use Rattle.meaning.specs.Answers.{lowest, answer}
 use Rattle.meaning.specs.Fields.{split, fields, complete, listed}
 use Rattle.meaning.specs.Site.{sweepsOf, stateOf, motionOf, headOf, laterOf, stateCount, siteOf, headGood, isState, sweepCount, isMotion, motionsLaid, layoutGood, uses, handover, endsGood, sweepsGood, motionGood, siteRefusals, readSite}
 use Rattle.meaning.specs.Board.{sortOf, isTug, isClosure, isHolder, free, stands, clear, withEdition, nextEdition}
-use Rattle.meaning.specs.Plan.{allowed, walk, startFree, planEnd, planPairs}
+use Rattle.meaning.specs.Plan.{allowed, walk, startFree, planEnd, canUnload, planPairs}
 use Rattle.meaning.specs.Reach.{byWait, byMotion, word, firstRow, withRow, rowsTo, trace, tracedRoute, routeIn, findRoute}
 use Rattle.meaning.specs.Light.{encode, lightOf, isLightHead, isWait, isMove, inLayout, isLight, decode}
 use Rattle.meaning.specs.Intervals.{begins, runEnd, intervalsFrom, intervals}
-use Rattle.meaning.specs.Calls.{bytesView, startNamed, runNamed, lightNamed, lightValid, routeRefusals, lightRefusals, closeRefusals, withdrawRefusals, intervalRefusals, refusals, grantedLight, changed, acceptedDone, refusedDone, meant}
+use Rattle.meaning.specs.Calls.{bytesView, tripNamed, runNamed, lightNamed, lightValid, routeRefusals, lightRefusals, closeRefusals, withdrawRefusals, intervalRefusals, refusals, grantedLight, changed, acceptedDone, refusedDone, meant}
 use Rattle.meaning.specs.Day.{callOf, dayDone, linesFrom, dayLines, decimal}
-use Rattle.worked.specs.FourInLine.{called, fresh, closed, posted, lightFor, routed, boardB, boardC, boardD, boardN, lightA, postedA, lentRoute, lentInterval, Starred, Computed}
+use Rattle.worked.specs.FourInLine.{called, fresh, closed, posted, lightFor, unloading, boardB, boardC, boardD, boardN, lightA, postedA, audited, boardDock, postedDwell, lentRoute, lentInterval, Starred, AtTheDock, Computed}
 
-pub all-cases : Starred × Computed
+pub all-cases : Starred × AtTheDock × Computed
 unfolding every any all allBelow within lowest answer split fields complete listed
     sweepsOf stateOf motionOf headOf laterOf stateCount siteOf headGood isState sweepCount isMotion motionsLaid layoutGood uses handover endsGood sweepsGood motionGood siteRefusals readSite
     sortOf isTug isClosure isHolder free stands clear withEdition nextEdition
-    allowed walk startFree planEnd planPairs byWait byMotion word firstRow withRow rowsTo trace tracedRoute routeIn findRoute
+    allowed walk startFree planEnd canUnload planPairs byWait byMotion word firstRow withRow rowsTo trace tracedRoute routeIn findRoute
     encode lightOf isLightHead isWait isMove inLayout isLight decode begins runEnd intervalsFrom intervals
-    bytesView startNamed runNamed lightNamed lightValid routeRefusals lightRefusals closeRefusals withdrawRefusals intervalRefusals refusals grantedLight changed acceptedDone refusedDone meant
-    called fresh closed posted lightFor routed boardB boardC boardD boardN lightA postedA lentRoute lentInterval callOf dayDone linesFrom dayLines decimal
+    bytesView tripNamed runNamed lightNamed lightValid routeRefusals lightRefusals closeRefusals withdrawRefusals intervalRefusals refusals grantedLight changed acceptedDone refusedDone meant
+    called fresh closed posted lightFor unloading boardB boardC boardD boardN lightA postedA audited boardDock postedDwell lentRoute lentInterval callOf dayDone linesFrom dayLines decimal
 all-cases = (
   record {
     size = refl;
@@ -47,12 +47,46 @@ all-cases = (
     N-area = refl;
   },
   record {
+    B-dwell-2 = refl;
+    B-dwell-3 = refl;
+    A-dwell-7 = refl;
+    A-dwell-8 = refl;
+    dock-1 = refl;
+    dock-2 = refl;
+    dock-3 = refl;
+    dock-4 = refl;
+    there-9 = refl;
+    there-10 = refl;
+    there-last = refl;
+    dwell-1000 = refl;
+    dwell-1001 = refl;
+    dwell-1001-rolling = refl;
+    dwell-1000-rolling = refl;
+    light = refl;
+    board = refl;
+    held-7 = refl;
+    free-8 = refl;
+    audit-7 = refl;
+    audit-8 = refl;
+    audit-1000 = refl;
+    audit-1001 = refl;
+    audit-old-head = refl;
+    day-dwell-2 = refl;
+    day-dwell-3 = refl;
+    day-dwell-256 = refl;
+    day-dwell-1001 = refl;
+    day-route-7 = refl;
+    day-route-8 = refl;
+    day-route-10 = refl;
+    day-dwell-1000 = refl;
+  },
+  record {
     A-earliest-only = refl;
     wait-earliest-only = refl;
     interval-earliest-only = refl;
     B-board = refl;
     area-fits = refl;
-    area-75 = refl;
+    area-77 = refl;
     words-64 = refl;
     words-zero = refl;
     words-later = refl;
@@ -83,8 +117,6 @@ all-cases = (
     day-close-7 = refl;
     day-withdraw-0 = refl;
     day-withdraw-2 = refl;
-    day-route-6 = refl;
-    day-route-8 = refl;
     day-post-1 = refl;
   },
 )

@@ -12,7 +12,7 @@ use Rattle.meaning.specs.Board.{free, edition}
 use Rattle.meaning.specs.Plan.{Step, wait, move, Node, node}
 use Rattle.meaning.specs.Reach.{Route}
 use Rattle.meaning.specs.Light.{Light, decode}
-use Rattle.meaning.specs.Calls.{route, post, close, PublicCall, opening, interval, listed, lends, Done, meant}
+use Rattle.meaning.specs.Calls.{route, audit, post, close, PublicCall, opening, interval, listed, lends, Done, meant}
 use Rattle.meaning.specs.Demands.{lightOut}
 use Rattle.meaning.specs.Day.{Line, dayLines, dayText}
 use Rattle.meaning.specs.EarliestOnly.{earliestNumber}
@@ -35,7 +35,7 @@ siteFile =
 -- ---- calls on a board, with areas that just fit and are not zero
 
 unfoldable pub called : List ℕ → PublicCall → Done
-called board q = meant siteFile (lends board (replicate 76 238) (replicate 65 9)) q
+called board q = meant siteFile (lends board (replicate 78 238) (replicate 65 9)) q
 
 abbrev pub boardOf : Done → List ℕ
 boardOf d = d .lent .board
@@ -52,8 +52,8 @@ unfoldable pub posted : List ℕ → List ℕ → List ℕ
 posted light board = boardOf (called board (listed (post light)))
 
 -- the bytes that a grant of tug 7 writes
-unfoldable pub lightFor : List ℕ → Node → ℕ → List ℕ
-lightFor board a goal = lightOut (called board (listed (route 7 a goal)))
+unfoldable pub lightFor : List ℕ → Node → ℕ → ℕ → List ℕ
+lightFor board a goal dwell = lightOut (called board (listed (route 7 a goal dwell)))
 
 -- tug 7's route: the steps and the arrival of the light that it writes, or its number
 abbrev pub found : List Step → ℕ → Answer Route
@@ -64,8 +64,12 @@ says zero none = refused 8
 says zero (some l) = found (l .steps) (l .arrival)
 says (suc n) o = refused (suc n)
 
-unfoldable pub routed : List ℕ → Node → ℕ → Answer Route
-routed board a goal = says (called board (listed (route 7 a goal)) .number) (decode (lightFor board a goal))
+unfoldable pub unloading : List ℕ → Node → ℕ → ℕ → Answer Route
+unloading board a goal dwell = says (called board (listed (route 7 a goal dwell)) .number) (decode (lightFor board a goal dwell))
+
+-- the cases of document 01 have dwell 0
+abbrev pub routed : List ℕ → Node → ℕ → Answer Route
+routed board a goal = unloading board a goal 0
 
 -- ---- the boards of the cases
 
@@ -82,7 +86,7 @@ unfoldable pub boardN : List ℕ
 boardN = closed 200 1 4 4 fresh
 
 unfoldable pub lightA : List ℕ
-lightA = lightFor fresh (node 0 0) 4
+lightA = lightFor fresh (node 0 0) 4 0
 
 unfoldable pub postedA : List ℕ
 postedA = posted lightA fresh
@@ -90,7 +94,7 @@ postedA = posted lightA fresh
 -- B's light, byte for byte
 abbrev pub lightB : List ℕ
 lightB =
-    0x10 ∷ 0x00 ∷ 0x0D ∷ 0x00 ∷ 0x00 ∷ 0x00 ∷ 0x01 ∷ 0x07 ∷ 0x00 ∷ 0x00 ∷ 0x00 ∷ 0x00 ∷ 0x00 ∷ 0x04 ∷ 0x00 ∷ 0x0A
+    0x10 ∷ 0x00 ∷ 0x0F ∷ 0x00 ∷ 0x00 ∷ 0x00 ∷ 0x01 ∷ 0x07 ∷ 0x00 ∷ 0x00 ∷ 0x00 ∷ 0x00 ∷ 0x00 ∷ 0x04 ∷ 0x00 ∷ 0x0A ∷ 0x00 ∷ 0x00
     ∷ 0x11 ∷ 0x00 ∷ 0x02 ∷ 0x00 ∷ 0x05
     ∷ 0x12 ∷ 0x00 ∷ 0x02 ∷ 0x00 ∷ 0x00
     ∷ 0x12 ∷ 0x00 ∷ 0x02 ∷ 0x00 ∷ 0x01
@@ -100,15 +104,44 @@ lightB =
 -- I's light: start 1, tick 3
 abbrev pub lightI : List ℕ
 lightI =
-    0x10 ∷ 0x00 ∷ 0x0D ∷ 0x00 ∷ 0x00 ∷ 0x00 ∷ 0x01 ∷ 0x07 ∷ 0x00 ∷ 0x01 ∷ 0x00 ∷ 0x03 ∷ 0x00 ∷ 0x04 ∷ 0x00 ∷ 0x09
+    0x10 ∷ 0x00 ∷ 0x0F ∷ 0x00 ∷ 0x00 ∷ 0x00 ∷ 0x01 ∷ 0x07 ∷ 0x00 ∷ 0x01 ∷ 0x00 ∷ 0x03 ∷ 0x00 ∷ 0x04 ∷ 0x00 ∷ 0x09 ∷ 0x00 ∷ 0x00
     ∷ 0x12 ∷ 0x00 ∷ 0x02 ∷ 0x00 ∷ 0x03
     ∷ 0x12 ∷ 0x00 ∷ 0x02 ∷ 0x00 ∷ 0x04
     ∷ 0x12 ∷ 0x00 ∷ 0x02 ∷ 0x00 ∷ 0x02
     ∷ []
 
+-- A's light with a dwell, its two bytes
+abbrev pub lightOfDwell : ℕ → ℕ → List ℕ
+lightOfDwell high low =
+    0x10 ∷ 0x00 ∷ 0x0F ∷ 0x00 ∷ 0x00 ∷ 0x00 ∷ 0x00 ∷ 0x07 ∷ 0x00 ∷ 0x00 ∷ 0x00 ∷ 0x00 ∷ 0x00 ∷ 0x04 ∷ 0x00 ∷ 0x05 ∷ high ∷ low
+    ∷ 0x12 ∷ 0x00 ∷ 0x02 ∷ 0x00 ∷ 0x00
+    ∷ 0x12 ∷ 0x00 ∷ 0x02 ∷ 0x00 ∷ 0x01
+    ∷ 0x12 ∷ 0x00 ∷ 0x02 ∷ 0x00 ∷ 0x02
+    ∷ []
+
+-- the same with the head that document 01 gave it, without a dwell
+abbrev pub lightOfNoDwell : List ℕ
+lightOfNoDwell =
+    0x10 ∷ 0x00 ∷ 0x0D ∷ 0x00 ∷ 0x00 ∷ 0x00 ∷ 0x00 ∷ 0x07 ∷ 0x00 ∷ 0x00 ∷ 0x00 ∷ 0x00 ∷ 0x00 ∷ 0x04 ∷ 0x00 ∷ 0x05
+    ∷ 0x12 ∷ 0x00 ∷ 0x02 ∷ 0x00 ∷ 0x00
+    ∷ 0x12 ∷ 0x00 ∷ 0x02 ∷ 0x00 ∷ 0x01
+    ∷ 0x12 ∷ 0x00 ∷ 0x02 ∷ 0x00 ∷ 0x02
+    ∷ []
+
+unfoldable pub audited : List ℕ → ℕ
+audited light = called fresh (listed (audit light)) .number
+
+-- the dock, cell 3, is closed at 7
+unfoldable pub boardDock : List ℕ
+boardDock = closed 200 3 7 7 fresh
+
+-- A's light with dwell 2, posted
+unfoldable pub postedDwell : List ℕ
+postedDwell = posted (lightOfDwell 0 2) fresh
+
 -- a route with other areas
 unfoldable pub lentRoute : ℕ → ℕ → Done
-lentRoute out words = meant siteFile (lends fresh (replicate out 238) (replicate words 9)) (listed (route 7 (node 0 0) 4))
+lentRoute out words = meant siteFile (lends fresh (replicate out 238) (replicate words 9)) (listed (route 7 (node 0 0) 4 0))
 
 unfoldable pub lentInterval : ℕ → Done
 lentInterval out = meant siteFile (lends boardN (replicate out 238) []) (interval 1)
@@ -117,15 +150,18 @@ lentInterval out = meant siteFile (lends boardN (replicate out 238) []) (interva
 abbrev pub siteFileO : List ℕ
 siteFileO = siteFile ++ fieldsBytes (record { tag = 3; value = 0 ∷ 0 ∷ 0 ∷ 2 ∷ 1 ∷ 0 ∷ 0 ∷ 0 ∷ 1 ∷ 1 ∷ 1 ∷ [] } ∷ [])
 
--- fields of the day program's scripts: close 200 on cell 3 0-8, its withdrawal, B's route, a post
+-- fields of the day program's scripts: close 200 on cell 3 0-8, its withdrawal, B's route with the two bytes of its dwell, a post
 abbrev pub closing : Field
 closing = record { tag = 32; value = 200 ∷ 3 ∷ 0 ∷ 0 ∷ 0 ∷ 8 ∷ [] }
 
 abbrev pub withdrawing : Field
 withdrawing = record { tag = 33; value = 200 ∷ [] }
 
+abbrev pub routingFor : ℕ → ℕ → Field
+routingFor high low = record { tag = 34; value = 7 ∷ 0 ∷ 0 ∷ 0 ∷ 0 ∷ 0 ∷ 4 ∷ high ∷ low ∷ [] }
+
 abbrev pub routing : Field
-routing = record { tag = 34; value = 7 ∷ 0 ∷ 0 ∷ 0 ∷ 0 ∷ 0 ∷ 4 ∷ [] }
+routing = routingFor 0 0
 
 abbrev pub posting : Field
 posting = record { tag = 35; value = [] }
@@ -145,8 +181,12 @@ bareSite horizon cells states =
     ∷ replicate states (record { tag = 2; value = 0 ∷ 0 ∷ [] }))
 
 -- a route of tug 7 from state 0 at the tick to state 0
+abbrev pub stayingFor : ℕ → ℕ → List ℕ
+stayingFor tick dwell =
+    fieldsBytes (record { tag = 34; value = 7 ∷ 0 ∷ 0 ∷ tick / 256 ∷ tick % 256 ∷ 0 ∷ 0 ∷ dwell / 256 ∷ dwell % 256 ∷ [] } ∷ [])
+
 abbrev pub staying : ℕ → List ℕ
-staying tick = fieldsBytes (record { tag = 34; value = 7 ∷ 0 ∷ 0 ∷ tick / 256 ∷ tick % 256 ∷ 0 ∷ 0 ∷ [] } ∷ [])
+staying tick = stayingFor tick 0
 
 abbrev pub line : ℕ → ℕ → ℕ → Line
 line n e t = record { number = n; edition = e; arrival = t }
@@ -157,7 +197,7 @@ pub record Starred : Type 0 where
   pub size : length siteFile ≡ 100
   pub A : routed fresh (node 0 0) 4 ≡ found (move 0 ∷ move 1 ∷ move 2 ∷ []) 5
   pub B : routed boardB (node 0 0) 4 ≡ found (wait 5 ∷ move 0 ∷ move 1 ∷ move 2 ∷ []) 10
-  pub B-light : lightFor boardB (node 0 0) 4 ≡ lightB
+  pub B-light : lightFor boardB (node 0 0) 4 0 ≡ lightB
   pub C : routed boardC (node 0 0) 4 ≡ found (wait 5 ∷ move 0 ∷ move 1 ∷ move 2 ∷ []) 10
   pub C-earliest-only : earliestNumber (siteOf siteFile) (free (siteOf siteFile) boardC) (node 0 0) 4 ≡ 18
   pub D : routed boardD (node 0 0) 4 ≡ found (move 0 ∷ move 3 ∷ wait 2 ∷ move 4 ∷ move 2 ∷ []) 10
@@ -166,7 +206,7 @@ pub record Starred : Type 0 where
   pub G : routed (closed 200 0 0 0 fresh) (node 0 0) 4 ≡ refused 18
   pub H : routed fresh (node 4 12) 4 ≡ found [] 12
   pub I : routed (closed 200 2 4 4 fresh) (node 1 3) 4 ≡ found (move 3 ∷ move 4 ∷ move 2 ∷ []) 9
-  pub I-light : lightFor (closed 200 2 4 4 fresh) (node 1 3) 4 ≡ lightI
+  pub I-light : lightFor (closed 200 2 4 4 fresh) (node 1 3) 4 0 ≡ lightI
   pub K-first : called boardB (listed (post lightB)) .number ≡ 0
   pub K-edition : edition (posted lightB boardB) ≡ 2
   pub K-again : called (posted lightB boardB) (listed (post lightB)) .number ≡ 12
@@ -174,7 +214,54 @@ pub record Starred : Type 0 where
   pub M-held : called postedA (listed (close 200 1 3 3)) .number ≡ 17
   pub M-free : called postedA (listed (close 200 1 4 4)) .number ≡ 0
   pub N-count : called boardN (interval 1) .values ≡ 2 ∷ []
-  pub N-area : called boardN (interval 1) .lent .out ≡ (0 ∷ 3 ∷ 5 ∷ 12 ∷ []) ++ replicate 72 238
+  pub N-area : called boardN (interval 1) .lent .out ≡ (0 ∷ 3 ∷ 5 ∷ 12 ∷ []) ++ replicate 74 238
+
+-- time at the dock: No. 2 of document 02
+pub record AtTheDock : Type 0 where
+  pub B-dwell-2 : unloading boardB (node 0 0) 4 2 ≡ found (wait 5 ∷ move 0 ∷ move 1 ∷ move 2 ∷ []) 10
+  pub B-dwell-3 : unloading boardB (node 0 0) 4 3 ≡ refused 18
+  pub A-dwell-7 : unloading fresh (node 0 0) 4 7 ≡ found (move 0 ∷ move 1 ∷ move 2 ∷ []) 5
+  pub A-dwell-8 : unloading fresh (node 0 0) 4 8 ≡ refused 18
+  -- the dock is closed at 7: with dwell 1 the tug is gone by then; with more it arrives after it, and M2 uses the dock a tick before it arrives
+  pub dock-1 : unloading boardDock (node 0 0) 4 1 ≡ found (move 0 ∷ move 1 ∷ move 2 ∷ []) 5
+  pub dock-2 : unloading boardDock (node 0 0) 4 2 ≡ found (wait 4 ∷ move 0 ∷ move 1 ∷ move 2 ∷ []) 9
+  pub dock-3 : unloading boardDock (node 0 0) 4 3 ≡ found (wait 4 ∷ move 0 ∷ move 1 ∷ move 2 ∷ []) 9
+  pub dock-4 : unloading boardDock (node 0 0) 4 4 ≡ refused 18
+  -- no steps
+  pub there-9 : unloading fresh (node 4 3) 4 9 ≡ found [] 3
+  pub there-10 : unloading fresh (node 4 3) 4 10 ≡ refused 18
+  pub there-last : unloading fresh (node 4 12) 4 1 ≡ refused 18
+  -- 1,000 may be named and does not fit; 1,001 may not, nor to a goal that is no standing state
+  pub dwell-1000 : unloading fresh (node 0 0) 4 1000 ≡ refused 18
+  pub dwell-1001 : unloading fresh (node 0 0) 4 1001 ≡ refused 10
+  pub dwell-1001-rolling : unloading fresh (node 0 0) 1 1001 ≡ refused 10
+  pub dwell-1000-rolling : unloading fresh (node 0 0) 1 1000 ≡ refused 11
+  -- the light, and the board that it is posted on: edition 1, then cell by cell
+  pub light : lightFor fresh (node 0 0) 4 2 ≡ lightOfDwell 0 2
+  pub board : postedDwell
+      ≡ (0 ∷ 0 ∷ 0 ∷ 1 ∷ [])
+      ++ ((7 ∷ 7 ∷ 0 ∷ 0 ∷ 0 ∷ 0 ∷ 0 ∷ 0 ∷ 0 ∷ 0 ∷ 0 ∷ 0 ∷ 0 ∷ [])
+      ++ ((0 ∷ 7 ∷ 7 ∷ 7 ∷ 0 ∷ 0 ∷ 0 ∷ 0 ∷ 0 ∷ 0 ∷ 0 ∷ 0 ∷ 0 ∷ [])
+      ++ ((0 ∷ 0 ∷ 0 ∷ 7 ∷ 7 ∷ 0 ∷ 0 ∷ 0 ∷ 0 ∷ 0 ∷ 0 ∷ 0 ∷ 0 ∷ [])
+      ++ (0 ∷ 0 ∷ 0 ∷ 0 ∷ 7 ∷ 7 ∷ 7 ∷ 7 ∷ 0 ∷ 0 ∷ 0 ∷ 0 ∷ 0 ∷ []))))
+  pub held-7 : called postedDwell (listed (close 200 3 7 7)) .number ≡ 17
+  pub free-8 : called postedDwell (listed (close 200 3 8 8)) .number ≡ 0
+  -- 7 ends at the horizon and 8 after it; 1,000 is a number that a light may have, 1,001 is not
+  pub audit-7 : audited (lightOfDwell 0 7) ≡ 0
+  pub audit-8 : audited (lightOfDwell 0 8) ≡ 17
+  pub audit-1000 : audited (lightOfDwell 3 232) ≡ 17
+  pub audit-1001 : audited (lightOfDwell 3 233) ≡ 10
+  pub audit-old-head : audited lightOfNoDwell ≡ 8
+  -- by script: B's dwells, the high byte first, one above the limit, and fields of other lengths
+  pub day-dwell-2 : dayLines siteFile (fieldsBytes (closing ∷ routingFor 0 2 ∷ posting ∷ [])) ≡ line 0 1 0 ∷ line 0 1 10 ∷ line 0 2 0 ∷ []
+  pub day-dwell-3 : dayLines siteFile (fieldsBytes (closing ∷ routingFor 0 3 ∷ [])) ≡ line 0 1 0 ∷ line 18 1 0 ∷ []
+  pub day-dwell-256 : dayLines siteFile (fieldsBytes (routingFor 1 0 ∷ [])) ≡ line 18 0 0 ∷ []
+  pub day-dwell-1001 : dayLines siteFile (fieldsBytes (routingFor 3 233 ∷ [])) ≡ line 10 0 0 ∷ []
+  pub day-route-7 : dayLines siteFile (sized 34 7) ≡ line 99 0 0 ∷ []
+  pub day-route-8 : dayLines siteFile (sized 34 8) ≡ line 99 0 0 ∷ []
+  pub day-route-10 : dayLines siteFile (sized 34 10) ≡ line 99 0 0 ∷ []
+  -- the longest dwell, in the one cell of a hall of 1,001 ticks
+  pub day-dwell-1000 : dayLines (bareSite 1000 1 1) (stayingFor 0 1000) ≡ line 0 0 0 ∷ []
 
 -- the cases without a star, and the day program's example
 pub record Computed : Type 0 where
@@ -187,11 +274,11 @@ pub record Computed : Type 0 where
   -- B's board: edition 1, then cell by cell
   pub B-board : boardB ≡ (0 ∷ 0 ∷ 0 ∷ 1 ∷ []) ++ (replicate 39 0 ++ (replicate 9 200 ++ replicate 4 0))
   -- areas that just fit, and one less
-  pub area-fits : lentRoute 76 65 .number ≡ 0
-  pub area-75 : lentRoute 75 65 .number ≡ 14
-  pub words-64 : lentRoute 76 64 .number ≡ 14
-  pub words-zero : lentRoute 76 65 .lent .words ≡ replicate 65 0
-  pub words-later : lentRoute 76 67 .lent .words ≡ replicate 65 0 ++ (9 ∷ 9 ∷ [])
+  pub area-fits : lentRoute 78 65 .number ≡ 0
+  pub area-77 : lentRoute 77 65 .number ≡ 14
+  pub words-64 : lentRoute 78 64 .number ≡ 14
+  pub words-zero : lentRoute 78 65 .lent .words ≡ replicate 65 0
+  pub words-later : lentRoute 78 67 .lent .words ≡ replicate 65 0 ++ (9 ∷ 9 ∷ [])
   pub numbers-14 : lentInterval 14 .number ≡ 0
   pub numbers-13 : lentInterval 13 .number ≡ 14
   pub J-late : routed fresh (node 0 13) 4 ≡ refused 10
@@ -219,7 +306,7 @@ pub record Computed : Type 0 where
   pub day-close : dayLines siteFile (fieldsBytes (closing ∷ [])) ≡ line 0 1 0 ∷ []
   -- I by script: start 1, tick 3
   pub day-start : dayLines siteFile (fieldsBytes (
-      record { tag = 32; value = 200 ∷ 2 ∷ 0 ∷ 4 ∷ 0 ∷ 4 ∷ [] } ∷ record { tag = 34; value = 7 ∷ 0 ∷ 1 ∷ 0 ∷ 3 ∷ 0 ∷ 4 ∷ [] } ∷ []))
+      record { tag = 32; value = 200 ∷ 2 ∷ 0 ∷ 4 ∷ 0 ∷ 4 ∷ [] } ∷ record { tag = 34; value = 7 ∷ 0 ∷ 1 ∷ 0 ∷ 3 ∷ 0 ∷ 4 ∷ 0 ∷ 0 ∷ [] } ∷ []))
       ≡ line 0 1 0 ∷ line 0 1 9 ∷ []
   -- a closure after the grant: the light is of an older edition
   pub day-stale : dayLines siteFile (fieldsBytes (closing ∷ routing ∷ record { tag = 32; value = 201 ∷ 0 ∷ 0 ∷ 12 ∷ 0 ∷ 12 ∷ [] } ∷ posting ∷ []))
@@ -236,6 +323,4 @@ pub record Computed : Type 0 where
   pub day-close-7 : dayLines siteFile (sized 32 7) ≡ line 99 0 0 ∷ []
   pub day-withdraw-0 : dayLines siteFile (sized 33 0) ≡ line 99 0 0 ∷ []
   pub day-withdraw-2 : dayLines siteFile (sized 33 2) ≡ line 99 0 0 ∷ []
-  pub day-route-6 : dayLines siteFile (sized 34 6) ≡ line 99 0 0 ∷ []
-  pub day-route-8 : dayLines siteFile (sized 34 8) ≡ line 99 0 0 ∷ []
   pub day-post-1 : dayLines siteFile (sized 35 1) ≡ line 99 0 0 ∷ []

@@ -1,7 +1,8 @@
 //! The time of the whole route call, the desk's and the plain program's, on generated sites of 200 states,
 //! 1,000 motions and H 1,000, with at most a tenth of the board held and at least 400 ticks from start to arrival.
+//! Each dwell has a table of its own, over sites and boards from the same seed; those of dwell 0 are as they were before there was a dwell.
 //!
-//! `./bench`; ROUTES sets how many routes (1,000) and SEED the seed (1).
+//! `./bench`; ROUTES sets how many routes for each dwell (1,000) and SEED the seed (1).
 //!
 //! HOW, which is printed first, says how sites and boards are made.
 
@@ -20,7 +21,12 @@ Sites:
 - long: 200 cells, as random, with span 10 to 120 and 1 to 16 sweeps.
 - corridor: states in a row, standing and rolling in turn; motions to the next few states either way, span 2 to 9.
 Boards: held in short runs (1 to 4 ticks), in long runs (5 to 60 ticks), both up to nine in a hundred pairs, or in
-few runs (one in a hundred). Where the goal is nearer, its cell is held from tick 0 up to a tick of 400 to 900.";
+few runs (one in a hundred). Where the goal is nearer, its cell is held from tick 0 up to a tick of 400 to 900.
+With a dwell, in half of these the cell is held before that tick only here and there, so that tugs reach the goal
+but can't unload.";
+
+/// The times at the dock, in ticks.
+const DWELLS: [u16; 2] = [0, 50];
 
 const STATES: usize = 200;
 const MOTIONS: usize = 1_000;
@@ -88,6 +94,16 @@ fn board(rng: &mut Rng, site: &Site, percent: usize, run: (usize, usize)) -> Vec
     board
 }
 
+/// Frees runs of a held row that are too short to unload in.
+fn leave_gaps(rng: &mut Rng, row: &mut [u8], dwell: u16) {
+    let mut at = 0;
+    while at < row.len() {
+        let end = (at + rng.range(1, dwell as usize)).min(row.len() - 1);
+        row[at..end].fill(0);
+        at = end + 1;
+    }
+}
+
 struct Case {
     kind: usize,
     site: Vec<u8>,
@@ -95,13 +111,14 @@ struct Case {
     start: u16,
     tick: u16,
     goal: u16,
+    dwell: u16,
 }
 
 const SITES: [&str; 4] = ["grid", "random", "long", "corridor"];
 const BOARDS: [&str; 3] = ["short runs", "long runs", "few runs"];
 
 /// A case of a kind, with an arrival at least 400 ticks after its start.
-fn case(rng: &mut Rng, kind: usize, out: &mut [u8], work: &mut [u32]) -> Case {
+fn case(rng: &mut Rng, kind: usize, dwell: u16, out: &mut [u8], work: &mut [u32]) -> Case {
     loop {
         let site = match kind / 3 {
             0 => grid(rng),
@@ -127,11 +144,14 @@ fn case(rng: &mut Rng, kind: usize, out: &mut [u8], work: &mut [u32]) -> Case {
                 let row = &mut board[4 + site.cell(goal) * (H + 1)..][..H + 1];
                 row[..until].fill(200);
                 row[until..].fill(0);
+                if dwell > 0 && rng.percent(50) {
+                    leave_gaps(rng, &mut row[..until], dwell);
+                }
             }
             let held = board[4..].iter().filter(|&&byte| byte != 0).count();
             assert!(held * 10 <= board.len() - 4);
-            let case = Case { kind, site: file.clone(), board, start: start as u16, tick: tick as u16, goal: goal as u16 };
-            let answer = plain::route(&case.site, &case.board, 7, case.start, case.tick, case.goal, out, work);
+            let case = Case { kind, site: file.clone(), board, start: start as u16, tick: tick as u16, goal: goal as u16, dwell };
+            let answer = plain::route(&case.site, &case.board, 7, case.start, case.tick, case.goal, dwell, out, work);
             if answer.number == 0 && answer.arrival as usize - tick >= 400 {
                 return case;
             }
@@ -139,14 +159,14 @@ fn case(rng: &mut Rng, kind: usize, out: &mut [u8], work: &mut [u32]) -> Case {
     }
 }
 
-type Route = fn(&[u8], &[u8], u8, u16, u16, u16, &mut [u8], &mut [u32]) -> Answer;
+type Route = fn(&[u8], &[u8], u8, u16, u16, u16, u16, &mut [u8], &mut [u32]) -> Answer;
 
 /// The time of one call, in microseconds, from areas cleared just before.
 fn time(route: Route, case: &Case, out: &mut [u8], work: &mut [u32]) -> (f64, Answer) {
     out.fill(0);
     work.fill(0);
     let began = Instant::now();
-    let answer = route(black_box(&case.site), black_box(&case.board), 7, case.start, case.tick, case.goal, out, work);
+    let answer = route(black_box(&case.site), black_box(&case.board), 7, case.start, case.tick, case.goal, case.dwell, out, work);
     (began.elapsed().as_secs_f64() * 1e6, answer)
 }
 
@@ -159,29 +179,28 @@ fn setting(name: &str, default: u64) -> u64 {
     std::env::var(name).map_or(default, |text| text.parse().unwrap_or_else(|_| panic!("{name} is no number")))
 }
 
-fn main() {
-    let (routes, seed) = (setting("ROUTES", 1_000) as usize, setting("SEED", 1));
-    println!("{HOW}\n\n{routes} routes, seed {seed}; microseconds for the whole call, checks and zeroed words included, median");
+/// The routes of one dwell: each one timed and compared, and a line for each kind of site and board.
+fn measure(routes: usize, seed: u64, dwell: u16) {
     let mut rng = Rng::new(seed);
     let needed = STATES * (H + 1);
-    let (mut out, mut work) = (vec![0; 16 + 5 * H], vec![0; needed]);
+    let (mut out, mut work) = (vec![0; 18 + 5 * H], vec![0; needed]);
     let (mut other_out, mut other_work) = (out.clone(), work.clone());
     let mut times: Vec<(Vec<f64>, Vec<f64>)> = vec![(vec![], vec![]); 12];
     for i in 0..routes {
-        let case = case(&mut rng, i % 12, &mut out, &mut work);
+        let case = case(&mut rng, i % 12, dwell, &mut out, &mut work);
         // The programs take turns, and the middle of three turns counts, as other work disturbs single calls.
         let (mut desk_times, mut plain_times) = (vec![], vec![]);
         for _ in 0..3 {
             let (by_desk, answer) = time(desk::route, &case, &mut out, &mut work);
             let (by_plain, wanted) = time(plain::route, &case, &mut other_out, &mut other_work);
-            assert!(answer == wanted && out == other_out && work == other_work, "route {i} differs: {answer:?}, {wanted:?}");
+            assert!(answer == wanted && out == other_out && work == other_work, "dwell {dwell}, route {i} differs: {answer:?}, {wanted:?}");
             desk_times.push(by_desk);
             plain_times.push(by_plain);
         }
         times[case.kind].0.push(median(&mut desk_times));
         times[case.kind].1.push(median(&mut plain_times));
     }
-    println!("{:22} {:>6} {:>9} {:>9} {:>7}", "site, board", "routes", "desk", "plain", "ratio");
+    println!("\ndwell {dwell}\n{:22} {:>6} {:>9} {:>9} {:>7}", "site, board", "routes", "desk", "plain", "ratio");
     let mut all = (vec![], vec![]);
     for (kind, (desk_times, plain_times)) in times.iter_mut().enumerate().filter(|(_, times)| !times.0.is_empty()) {
         let (by_desk, by_plain) = (median(desk_times), median(plain_times));
@@ -196,4 +215,12 @@ fn main() {
     }
     let (by_desk, by_plain) = (median(&mut all.0), median(&mut all.1));
     println!("{:22} {:>6} {by_desk:>9.0} {by_plain:>9.0} {:>7.2}", "all", all.0.len(), by_desk / by_plain);
+}
+
+fn main() {
+    let (routes, seed) = (setting("ROUTES", 1_000) as usize, setting("SEED", 1));
+    println!("{HOW}\n\n{routes} routes for each dwell, seed {seed}; microseconds for the whole call, checks and zeroed words included, median");
+    for dwell in DWELLS {
+        measure(routes, seed, dwell);
+    }
 }

@@ -51,9 +51,17 @@ fn main() {
         let answer = match (head[0], value.len()) {
             (32, 6) => desk::close(&site, board, value[0], value[1] as u16, n(2), n(4)),
             (33, 1) => desk::withdraw(&site, board, value[0]),
-            (34, 7) => {
+            (34, len) if len == 9 || (len == 7 && fault("day-dwell-old-field")) => {
                 let (mut out, mut work) = (vec![0u8; 65_536], vec![0u32; 16_384]);
-                let answer = desk::route(&site, board, value[0], n(1), n(3), n(5), &mut out, &mut work);
+                let (start, tick, goal, dwell) = match len {
+                    7 => (n(1), n(3), n(5), 0),
+                    _ if fault("day-dwell-goal") => (n(1), n(3), n(5), n(5)),
+                    _ if fault("day-dwell-first") => (n(3), n(5), n(7), n(1)),
+                    _ if fault("day-dwell-swapped") => (n(1), n(3), n(5), n(7).swap_bytes()),
+                    _ if fault("day-dwell-low-byte") => (n(1), n(3), n(5), value[8] as u16),
+                    _ => (n(1), n(3), n(5), n(7)),
+                };
+                let answer = desk::route(&site, board, value[0], start, tick, goal, dwell, &mut out, &mut work);
                 if answer.number == 0 {
                     light = out[..answer.value as usize].to_vec();
                     arrival = answer.arrival;

@@ -8,7 +8,7 @@ use borrow.Author.Needs.{needs}
 use borrow.Author.Tests.{not-false, eq-eqb, ne-eqb}
 use Rattle.meaning.specs.Answers.{Refusal}
 use Rattle.meaning.specs.Site.{siteOf}
-use Rattle.meaning.specs.Calls.{startNamed, bytesView, routeRefusals, Room}
+use Rattle.meaning.specs.Calls.{tripNamed, bytesView, routeRefusals, Room}
 use Rattle.meaning.specs.Plan.{node}
 use Rattle.meaning.proofs.CheckLaws.{hit, miss, none-left}
 use Rattle.meaning.proofs.CallLaws.{named-goal}
@@ -38,9 +38,9 @@ abbrev list : tie.Start → Room → List Refusal
 list s areas =
     let a = s .args in
     let site = siteOf (a .file .now) in
-    routeChecks site (bytesView site (a .board .now)) areas (a .tug) (node (a .trip .start) (a .trip .tick)) (a .trip .goal)
+    routeChecks site (bytesView site (a .board .now)) areas (a .tug) (node (a .trip .start) (a .trip .tick)) (a .trip .goal) (a .trip .dwell)
 
-named : (c : tie.Else2) → let a = start (at-9 c) .args in startNamed (siteOf (a .file .now)) (node (a .trip .start) (a .trip .tick)) (a .trip .goal) ≡ true
+named : (c : tie.Else2) → let a = start (at-9 c) .args in tripNamed (siteOf (a .file .now)) (node (a .trip .start) (a .trip .tick)) (a .trip .goal) (a .trip .dwell) ≡ true
 named c = sym (c .before .trip-named .ensures _ (start (at-9 c) .pre .sizes)) ∙ not-false _ (c .if2 .left)
 
 past-9 : (c : tie.Else1) (areas : Room) → Past 10 (list (start c) areas)
@@ -88,7 +88,7 @@ cast-state-speed : tie.Need-cast-state-speed
 cast-state-speed c = search needs
 
 state-speed-requires : tie.Need-state-speed-requires
-state-speed-requires c κs = (read-laid _ _ (start (at-9 (c .before)) .pre .read), named-goal _ _ _ (named (c .before)))
+state-speed-requires c κs = (read-laid _ _ (start (at-9 (c .before)) .pre .read), named-goal _ _ _ _ (named (c .before)))
 
 returns-3 : tie.Need-returns-3
 unfolding routeRefusals

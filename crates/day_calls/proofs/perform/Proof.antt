@@ -99,7 +99,7 @@ returns-3 c =
     let at = called .before .before .before .before .before in
     let s = at .before .before .before .before .before .before in
     let a = s .args in (
-      routed-performed (a .file .now) (a .board .now) (a .out .now) (a .words .now) (a .light) _ _ _ _ (s .pre .out-size) (s .pre .words-size) _ _ _ _ (ap (callBy (take (a .light) (a .out .now))) (at .o3 .given .1))
+      routed-performed (a .file .now) (a .board .now) (a .out .now) (a .words .now) (a .light) _ _ _ _ _ (s .pre .out-size) (s .pre .words-size) _ _ _ _ (ap (callBy (take (a .light) (a .out .now))) (at .o3 .given .1))
           (called .route .ensures .0) (called .route .ensures .1 .0) (c .routed .ensures .0),
       c .routed .ensures .1,
     )

@@ -35,7 +35,7 @@ readied c = ready _ (onBoard _) opening _ (passes c)
 
 -- the number is that of the checks up to 14
 abbrev number : tie.Start → ℕ
-number s = let a = s .args in lowest (routes.checks (a .file .now) (lends (a .board .now) (a .out .now) (a .work .now)) (a .tug) (node (a .start) (a .tick)) (a .goal))
+number s = let a = s .args in lowest (routes.checks (a .file .now) (lends (a .board .now) (a .out .now) (a .work .now)) (a .tug) (node (a .start) (a .tick)) (a .goal) (a .dwell))
 
 low : (c : tie.After-route-refusal) → c .route-refusal .result ≡ number (start (arm c))
 low c = let a = start (arm c) .args in c .route-refusal .ensures (roomOf (lends (a .board .now) (a .out .now) (a .work .now))) refl refl
@@ -67,7 +67,7 @@ returns : tie.Need-returns
 returns c =
     let at = arm (c .before) in
     let a = start at .args in
-    let leaves = route-later (a .file .now) (a .board .now) (a .out .now) (a .work .now) (a .tug) (a .start) (a .tick) (a .goal) _ (passes at) _ (low (c .before)) (omega arith) in
+    let leaves = route-later (a .file .now) (a .board .now) (a .out .now) (a .work .now) (a .tug) (a .start) (a .tick) (a .goal) (a .dwell) _ (passes at) _ (low (c .before)) (omega arith) in
     (leaves .0, (leaves .1 .0, (leaves .1 .1, (refl, refl))))
 
 words-needed-requires : tie.Need-words-needed-requires
@@ -78,14 +78,14 @@ zero-words-requires c κs =
     let told = c .before in
     let at = arm (told .before .before) in
     let a = start at .args in
-    omega (arith, words-is told, route-words (a .file .now) (a .board .now) (a .out .now) (a .work .now) (a .tug) (a .start) (a .tick) (a .goal) _ (passes at) (passed (told .before)))
+    omega (arith, words-is told, route-words (a .file .now) (a .board .now) (a .out .now) (a .work .now) (a .tug) (a .start) (a .tick) (a .goal) (a .dwell) _ (passes at) (passed (told .before)))
 
 find-requires : tie.Need-find-requires
 find-requires c κs =
     let behind-14 = behind (c .before .before .before) in
     let at = arm (behind-14 .before) in
     let a = start at .args in
-    (route-asked (a .file .now) (a .board .now) (a .out .now) (a .work .now) (a .tug) (a .start) (a .tick) (a .goal) _ (passes at) (passed behind-14), route-room (a .file .now) (a .board .now) (a .out .now) (a .work .now) (a .tug) (a .start) (a .tick) (a .goal) _ (passes at) (passed behind-14))
+    (route-asked (a .file .now) (a .board .now) (a .out .now) (a .work .now) (a .tug) (a .start) (a .tick) (a .goal) (a .dwell) _ (passes at) (passed behind-14), route-room (a .file .now) (a .board .now) (a .out .now) (a .work .now) (a .tug) (a .start) (a .tick) (a .goal) (a .dwell) _ (passes at) (passed behind-14))
 
 enum-known-len : tie.Need-enum-known-len
 enum-known-len c = search needs
@@ -109,7 +109,7 @@ returns-2 c =
     let at = arm (behind zeroed .before) in
     let a = start at .args in
     let leaves =
-    route-granted (a .file .now) (a .board .now) (a .out .now) (a .work .now) (a .tug) (a .start) (a .tick) (a .goal) _ (passes at) (passed (behind zeroed)) _ _ _ _
+    route-granted (a .file .now) (a .board .now) (a .out .now) (a .work .now) (a .tug) (a .start) (a .tick) (a .goal) (a .dwell) _ (passes at) (passed (behind zeroed)) _ _ _ _
     (sym (c .before .len .given .1) ∙ searched .find .ensures .0) (searched .find .ensures .1) (cleared zeroed) in
     (leaves .0, (leaves .1 .0, (leaves .1 .1, (refl, refl))))
 
@@ -126,7 +126,7 @@ returns-3 c =
     let at = arm (behind zeroed .before) in
     let a = start at .args in
     let leaves =
-    route-none (a .file .now) (a .board .now) (a .out .now) (a .work .now) (a .tug) (a .start) (a .tick) (a .goal) _ (passes at) (passed (behind zeroed)) _ _
+    route-none (a .file .now) (a .board .now) (a .out .now) (a .work .now) (a .tug) (a .start) (a .tick) (a .goal) (a .dwell) _ (passes at) (passed (behind zeroed)) _ _
     (sym (c .enum-told .given .1) ∙ searched .find .ensures .0) (searched .find .ensures .1) (cleared zeroed) in
     (leaves .0, (leaves .1 .0, (leaves .1 .1, (refl, refl))))
 
@@ -134,7 +134,7 @@ returns-4 : tie.Need-returns-4
 returns-4 c =
     let a = c .before .before .before .before .before .before .before .before .args in
     let leaves =
-    route-first (a .file .now) (a .board .now) (a .out .now) (a .work .now) (a .tug) (a .start) (a .tick) (a .goal) _
+    route-first (a .file .now) (a .board .now) (a .out .now) (a .work .now) (a .tug) (a .start) (a .tick) (a .goal) (a .dwell) _
     (sym (c .before .n .given .1) ∙ c .before .before .before .check-board .ensures) in
     (leaves .0, (leaves .1 .0, (leaves .1 .1, (refl, refl))))
 

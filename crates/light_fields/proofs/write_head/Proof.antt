@@ -49,6 +49,12 @@ high-requires-6 c κs = search needs
 low-requires-6 : tie.Need-low-requires-6
 low-requires-6 c κs = search needs
 
+high-requires-7 : tie.Need-high-requires-7
+high-requires-7 c κs = search needs
+
+low-requires-7 : tie.Need-low-requires-7
+low-requires-7 c κs = search needs
+
 slice-aggregate-copy : tie.Need-slice-aggregate-copy
 slice-aggregate-copy c = search needs
 
@@ -60,7 +66,9 @@ same-length c = search needs
 
 returns : tie.Need-returns
 returns c =
-    let l6 = c .before .before .before .before .before in
+    let l7 = c .before .before .before .before .before in
+    let h7 = l7 .before in
+    let l6 = h7 .before in
     let h6 = l6 .before in
     let l5 = h6 .before in
     let h5 = l5 .before in
@@ -89,6 +97,8 @@ returns c =
       l5 .low5 .ensures,
       h6 .high6 .ensures,
       l6 .low6 .ensures,
+      h7 .high7 .ensures,
+      l7 .low7 .ensures,
       third,
       fourth,
     )
@@ -111,6 +121,8 @@ write-head-spec =
     low-requires-5
     high-requires-6
     low-requires-6
+    high-requires-7
+    low-requires-7
     slice-aggregate-copy
     copy-requires
     same-length

@@ -60,12 +60,18 @@ add-u16-at-5 c = search needs
 u16-at-requires-6 : tie.Need-u16-at-requires-6
 u16-at-requires-6 c κs = search needs
 
+add-u16-at-6 : tie.Need-add-u16-at-6
+add-u16-at-6 c = search needs
+
+u16-at-requires-7 : tie.Need-u16-at-requires-7
+u16-at-requires-7 c κs = search needs
+
 returns : tie.Need-returns
 returns c =
-    let s = c .before .before .before .before .before .before .before .before .before .args .s .now in
+    let s = c .before .before .before .before .before .before .before .before .before .before .args .s .now in
     head-numbers
     s
-    (c .before .before .before .before .before .before .before .before .before .pre)
+    (c .before .before .before .before .before .before .before .before .before .before .pre)
     _
     _
     _
@@ -74,14 +80,16 @@ returns c =
     _
     _
     _
-    (c .before .before .before .before .before .before .before .head-value .ensures .0)
-    (c .before .before .before .before .before .before .u16-at .ensures)
-    (c .before .before .before .before .before .u16-at2 .ensures)
+    _
+    (c .before .before .before .before .before .before .before .before .head-value .ensures .0)
+    (c .before .before .before .before .before .before .before .u16-at .ensures)
+    (c .before .before .before .before .before .before .u16-at2 .ensures)
     refl
-    (c .before .before .before .u16-at3 .ensures)
-    (c .before .before .u16-at4 .ensures)
-    (c .before .u16-at5 .ensures)
-    (c .u16-at6 .ensures)
+    (c .before .before .before .before .u16-at3 .ensures)
+    (c .before .before .before .u16-at4 .ensures)
+    (c .before .before .u16-at5 .ensures)
+    (c .before .u16-at6 .ensures)
+    (c .u16-at7 .ensures)
 
 pub read-head-spec : {M : Type 1} → statement M
 read-head-spec =
@@ -105,4 +113,6 @@ read-head-spec =
     u16-at-requires-5
     add-u16-at-5
     u16-at-requires-6
+    add-u16-at-6
+    u16-at-requires-7
     returns)

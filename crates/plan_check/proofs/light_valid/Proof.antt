@@ -1,12 +1,13 @@
--- `plan_check::light_valid` meets its contract: the light's steps lead from its start to where it says.
+-- `plan_check::light_valid` meets its contract: the light's steps lead from its start to where it says, and the tug can unload there.
 -- Assumes nothing.
 use mathlib.Core.Path.{sym, ap, _∙_}
-use mathlib.Core.Option.{none}
 use Rattle.meaning.specs.Site.{siteOf}
 use Rattle.meaning.specs.Board.{free}
+use Rattle.meaning.proofs.SiteLaws.{read-well}
 use Rattle.light_read.proofs.HeadLaws.{accepted}
 use Rattle.plan_check.specs.Walks.{walkEndCase}
-use Rattle.plan_check.proofs.LightLaws.{start-known, valid-off, valid-walk}
+use Rattle.plan_check.proofs.LightLaws.{start-known, valid-off, valid-walk, valid-none}
+use Rattle.plan_check.proofs.WalkLaws.{walk-known}
 use borrow.Author.Needs.{needs}
 use Rattle.plan_check.proofs.light_valid.Statement.{statement}
 use Rattle.plan_check.proofs.light_valid.Tie as tie
@@ -29,8 +30,14 @@ walk-steps-requires c κs =
 enum-known-b : tie.Need-enum-known-b
 enum-known-b c = search needs
 
-at-goal-requires : tie.Need-at-goal-requires
-at-goal-requires c κs = search needs
+unloads-at-requires : tie.Need-unloads-at-requires
+unloads-at-requires c κs =
+    let at = c .before .before .before .before .before .before .before .before .before .before .before in
+    let starts = sym (c .before .before .before .before .before .start-free .ensures) ∙ c .before .before .before .before .if1 .taken in (
+      at .pre .0,
+      walk-known (at .args .file .now) (read-well _ _ (at .pre .0 .read)) _ _ _ (c .before .b .given .0 .0) starts
+          (sym (ap walkEndCase (c .before .b .given .1)) ∙ c .before .before .before .walk-steps .ensures),
+    )
 
 enum-told : tie.Need-enum-told
 enum-told c = search needs
@@ -40,7 +47,7 @@ returns c =
     let a = c .before .before .before .before .before .before .before .before .before .before .before .before .args in
     let s = siteOf (a .file .now) in
     let starts = sym (c .before .before .before .before .before .before .start-free .ensures) ∙ c .before .before .before .before .before .if1 .taken in
-    c .at-goal .ensures
+    c .unloads-at .ensures
     ∙ valid-walk s (free s (a .board .now)) (a .light .now) _ (c .before .before .before .before .before .before .before .before .read-head .ensures) _ (c .before .before .before .before .before .before .before .start-of .ensures) (c .before .before .before .before .before .before .before .before .before .before .before .before .pre .2) starts _
     (sym (ap walkEndCase (c .before .before .b .given .1)) ∙ c .before .before .before .before .walk-steps .ensures)
 
@@ -49,7 +56,7 @@ returns-2 c =
     let a = c .before .before .before .before .before .before .before .before .before .before .args in
     let s = siteOf (a .file .now) in
     let starts = sym (c .before .before .before .before .start-free .ensures) ∙ c .before .before .before .if1 .taken in
-    valid-walk s (free s (a .board .now)) (a .light .now) _ (c .before .before .before .before .before .before .read-head .ensures) _ (c .before .before .before .before .before .start-of .ensures) (c .before .before .before .before .before .before .before .before .before .before .pre .2) starts none
+    valid-none s (free s (a .board .now)) (a .light .now) _ (c .before .before .before .before .before .before .read-head .ensures) _ (c .before .before .before .before .before .start-of .ensures) (c .before .before .before .before .before .before .before .before .before .before .pre .2) starts
     (sym (ap walkEndCase (c .enum-told .given .1)) ∙ c .before .before .walk-steps .ensures)
 
 returns-3 : tie.Need-returns-3
@@ -67,7 +74,7 @@ light-valid-spec =
     start-free-requires
     walk-steps-requires
     enum-known-b
-    at-goal-requires
+    unloads-at-requires
     enum-told
     returns
     returns-2

@@ -16,25 +16,28 @@ use Rattle.search_plan.proofs.search.Tie as tie
 -- ---- the places that the answers look back to, from where all sets but the reached pairs are there
 
 abbrev start : tie.After-allowed3 → tie.Start
-start e = e .before .before .before .before .before .before .before .before .before .before .before .before .before .before .before .before .before
+start e = e .before .before .before .before .before .before .before .before .before .before .before .before .before .before .before .before .before .before
 
 abbrev states : tie.After-allowed3 → tie.After-decode-states
-states e = e .before .before .before .before .before .before .before .before .before .before .before .before .before .before
+states e = e .before .before .before .before .before .before .before .before .before .before .before .before .before .before .before
 
 abbrev motions : tie.After-allowed3 → tie.After-decode-motions
-motions e = e .before .before .before .before .before .before .before .before .before .before .before .before .before
+motions e = e .before .before .before .before .before .before .before .before .before .before .before .before .before .before
 
 abbrev frees : tie.After-allowed3 → tie.After-free-rows
-frees e = e .before .before .before .before .before .before .before .before .before .before .before .before
+frees e = e .before .before .before .before .before .before .before .before .before .before .before .before .before
 
 abbrev starts : tie.After-allowed3 → tie.After-allow-all
-starts e = e .before .before .before .before .before .before .before .before
+starts e = e .before .before .before .before .before .before .before .before .before
 
 abbrev sets : tie.After-explore → tie.After-allowed3
 sets x = x .before
 
 abbrev explored : tie.After-arrival → tie.After-explore
-explored a = a .before .before
+explored a = a .before .before .before .before .before
+
+abbrev celled : tie.After-arrival → tie.After-cell-of
+celled a = a .before .before .before
 
 -- ---- what holds there
 
@@ -115,6 +118,9 @@ cast-tick c = search needs
 cast-goal : tie.Need-cast-goal
 cast-goal c = search needs
 
+cast-dwell : tie.Need-cast-dwell
+cast-dwell c = search needs
+
 slice-aggregate-explore : tie.Need-slice-aggregate-explore
 slice-aggregate-explore c = search needs
 
@@ -132,30 +138,45 @@ explore-requires c κs =
     let r = ranges-at (start c) in
     ((states-there c, motions-there c), ((omega (arith, frees c .free-rows .ok), starts-there c), (r .start-below, omega (arith, r .short, r .in-time))))
 
+slice-aggregate-cell-of : tie.Need-slice-aggregate-cell-of
+slice-aggregate-cell-of c = sym (states (sets (c .before)) .decode-states .ok .1 .0 .1)
+
+cell-of-requires : tie.Need-cell-of-requires
+cell-of-requires c κs =
+    let e = sets (c .before) in
+    (states-there e, ranges-at (start e) .goal-below)
+
 slice-aggregate-arrival : tie.Need-slice-aggregate-arrival
 slice-aggregate-arrival c = search needs
 
+slice-aggregate-arrival-2 : tie.Need-slice-aggregate-arrival-2
+slice-aggregate-arrival-2 c = sym (frees (sets (c .before .before .before .before)) .free-rows .ok .1 .0 .1)
+
 arrival-requires : tie.Need-arrival-requires
 arrival-requires c κs =
-    let x = c .before in
-    let r = ranges-at (start (sets x)) in
-    (omega (arith, r .start-below, r .goal-below, r .states-few, x .explore .ok), (r .in-time, r .short))
+    let cell = c .before .before .cell-of in
+    let x = c .before .before .before .before in
+    let e = sets x in
+    let r = ranges-at (start e) in (
+      (omega (arith, r .start-below, r .goal-below, r .states-few, x .explore .ok), omega (arith, cell .ensures, states-there e .cell (start e .args .trip .goal) (r .goal-below), frees e .free-rows .ok)),
+      (r .in-time, r .short),
+    )
 
 returns : tie.Need-returns
 returns c =
     let a = c .before .before in
     let x = explored a in
     let b = start (sets x) in
-    missing _ (b .args .board .now) _ _ (b .pre) _ _ _ _ _ (sets-there x) (a .arrival .result) (a .arrival .ensures .1) _ (c .if1 .taken)
+    missing _ (b .args .board .now) _ _ (b .pre) _ _ _ _ _ (sets-there x) _ (a .arrival .result) (celled a .cell-of .ensures) (a .arrival .ensures .1) _ (c .if1 .taken)
 
 slice-aggregate-trace-back : tie.Need-slice-aggregate-trace-back
-slice-aggregate-trace-back c = sym (c .before .before .before .before .before .before .before .before .before .before .before .before .before .before .before .before .before .before .before .before .decode-states .ok .1 .0 .1)
+slice-aggregate-trace-back c = sym (c .before .before .before .before .before .before .before .before .before .before .before .before .before .before .before .before .before .before .before .before .before .before .before .before .decode-states .ok .1 .0 .1)
 
 slice-aggregate-trace-back-2 : tie.Need-slice-aggregate-trace-back-2
-slice-aggregate-trace-back-2 c = sym (c .before .before .before .before .before .before .before .before .before .before .before .before .before .before .before .before .before .before .before .before .decode-motions .ok .1 .0 .1)
+slice-aggregate-trace-back-2 c = sym (c .before .before .before .before .before .before .before .before .before .before .before .before .before .before .before .before .before .before .before .before .before .before .before .before .decode-motions .ok .1 .0 .1)
 
 slice-aggregate-trace-back-3 : tie.Need-slice-aggregate-trace-back-3
-slice-aggregate-trace-back-3 c = sym (c .before .before .before .before .before .before .before .before .before .before .before .before .before .before .before .before .before .before .before .before .free-rows .ok .1 .0 .1)
+slice-aggregate-trace-back-3 c = sym (c .before .before .before .before .before .before .before .before .before .before .before .before .before .before .before .before .before .before .before .before .before .before .before .before .free-rows .ok .1 .0 .1)
 
 slice-aggregate-trace-back-4 : tie.Need-slice-aggregate-trace-back-4
 slice-aggregate-trace-back-4 c = search needs
@@ -176,7 +197,7 @@ trace-back-requires c κs =
           ranges-at b .goal-below,
           (
             _,
-            found _ (b .args .board .now) _ _ (b .pre) _ _ _ _ _ (sets-there x) (a .arrival .result) (a .arrival .ensures .1) (a .arrival .ensures .0)
+            found _ (b .args .board .now) _ _ (b .pre) _ _ _ _ _ (sets-there x) _ (a .arrival .result) (celled a .cell-of .ensures) (a .arrival .ensures .1) (a .arrival .ensures .0)
                 (omega (arith, c .before .before .before .before .before .before .if1 .left)),
           ),
         ),
@@ -188,7 +209,7 @@ returns-2 c =
     let a = c .before .before .before .before .before .before .before .before .before in
     let x = explored a in
     let b = start (sets x) in
-    planned _ (b .args .board .now) _ _ (b .pre) _ _ _ _ _ (sets-there x) (a .arrival .result) (a .arrival .ensures .1) (a .arrival .ensures .0)
+    planned _ (b .args .board .now) _ _ (b .pre) _ _ _ _ _ (sets-there x) _ (a .arrival .result) (celled a .cell-of .ensures) (a .arrival .ensures .1) (a .arrival .ensures .0)
     (omega (arith, c .before .before .before .before .before .before .before .if1 .left)) _ (c .trace-back .result) (c .trace-back .ensures)
 
 pub search-spec : {M : Type 1} → statement M
@@ -205,12 +226,16 @@ search-spec =
     cast-start
     cast-tick
     cast-goal
+    cast-dwell
     slice-aggregate-explore
     slice-aggregate-explore-2
     slice-aggregate-explore-3
     slice-aggregate-explore-4
     explore-requires
+    slice-aggregate-cell-of
+    cell-of-requires
     slice-aggregate-arrival
+    slice-aggregate-arrival-2
     arrival-requires
     returns
     slice-aggregate-trace-back
