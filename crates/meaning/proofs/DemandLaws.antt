@@ -15,7 +15,7 @@ use Rattle.meaning.specs.Basics.{all, Bytes}
 use Rattle.meaning.specs.Answers.{Refusal, _if_, lowest, Clears, accepted}
 use Rattle.meaning.specs.Site.{Site, siteOf, siteRefusals, readSite}
 use Rattle.meaning.specs.Board.{free, boardLength, byteAt, edition, Pair, runTo, allFree, mark, clear, nextEdition}
-use Rattle.meaning.specs.Plan.{Node, planPairs}
+use Rattle.meaning.specs.Plan.{Node}
 use Rattle.meaning.specs.Reach.{Route}
 use Rattle.meaning.specs.Light.{Light, startOf, goalOf, encode, lightOf, decode}
 use Rattle.meaning.specs.Intervals.{Interval, intervals, numbersOf}

@@ -10,7 +10,6 @@ use mathlib.Core.Option.{Option, some}
 use mathlib.Core.List.{List, [], _∷_}
 use borrow.Author.Tests.{lt-ltb}
 use lib.ListN.{length}
-use Rattle.meaning.specs.Limits.{fieldHeader, lightHeadSize, stepSize}
 use Rattle.meaning.specs.Basics.{all}
 use Rattle.meaning.specs.Site.{Site, Motion, motionAt}
 use Rattle.meaning.specs.Board.{Free}

@@ -5,18 +5,18 @@ use native.Mathlib.Omega.{arith}
 use mathlib.Core.Path.{_≡_, refl, sym, ap, ap₂, _∙_}
 use mathlib.Core.Bool.{Bool, true, false, cond, _&&_, not, and-true}
 use mathlib.Core.Option.{Option, none, some}
-use mathlib.Core.List.{List, [], _∷_}
+use mathlib.Core.List.{List}
 use lib.Dec.{leb, ltb}
 use borrow.Author.Tests.{le-leb, lt-leb, lt-ltb, ltb-true, ltb-false}
 use Rattle.meaning.specs.Limits.{horizonLimit}
 use Rattle.meaning.specs.Basics.{every, least, isZero}
 use Rattle.meaning.specs.Site.{Site, cellOf}
 use Rattle.meaning.specs.Board.{Free}
-use Rattle.meaning.specs.Plan.{Node, canUnload, node as at}
+use Rattle.meaning.specs.Plan.{canUnload, node as at}
 use Rattle.meaning.specs.Reach.{rowsTo, reached, endsAfter}
 use Rattle.meaning.specs.ValidPlans.{Unloads}
 use Rattle.meaning.specs.WellFormed.{WellFormed}
-use Rattle.meaning.proofs.BasicsLaws.{decide, every-at, every-nil, every-cons, least-same, same-test}
+use Rattle.meaning.proofs.BasicsLaws.{decide, least-same, same-test}
 use Rattle.meaning.proofs.PlanLaws.{can-unload, unload-can}
 use Rattle.meaning.proofs.ReachLaws.{word-row}
 use Rattle.search_sizes.specs.Sizes.{rowTicks}

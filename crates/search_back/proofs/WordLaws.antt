@@ -3,9 +3,9 @@
 use Prim.Native.Nat.{ℕ, zero, suc, _+_, _-_, _≤_, _<_}
 use native.Mathlib.Numerals.{add-one}
 use native.Mathlib.Omega.{arith}
-use mathlib.Core.Path.{_≡_, refl, sym, ap, ap₂, _∙_}
+use mathlib.Core.Path.{_≡_, sym, ap, ap₂, _∙_}
 use mathlib.Core.Bool.{Bool, true, false, cond, _&&_, not}
-use mathlib.Core.Option.{Option, none, some}
+use mathlib.Core.Option.{none, some}
 use mathlib.Core.List.{List, [], _∷_}
 use lib.Dec.{leb, ltb, eqb}
 use lib.ListN.{length}
@@ -15,14 +15,14 @@ use Rattle.meaning.specs.Basics.{every, least, isZero}
 use Rattle.meaning.specs.Site.{Site, Motion, cellOf, motionAt}
 use Rattle.meaning.specs.Board.{Free}
 use Rattle.meaning.specs.Plan.{wait, move, Node, allowed, startFree, sweepsFree, node as at}
-use Rattle.meaning.specs.Reach.{wordBy, rowsTo, reachWord, reached, wordIn}
+use Rattle.meaning.specs.Reach.{wordBy, reachWord, reached}
 use Rattle.meaning.specs.WellFormed.{WellFormed}
 use Rattle.meaning.proofs.BasicsLaws.{decide, and-left, and-right, every-at, every-nil, every-cons, least-same, least-snoc, least-more, same-test}
-use Rattle.meaning.proofs.ReachLaws.{waited, arrives, word-first, word-next, word-row}
+use Rattle.meaning.proofs.ReachLaws.{waited, arrives, word-first, word-next}
 use Rattle.search_sizes.specs.Sizes.{rowTicks}
 use Rattle.search_ticks.specs.Rows.{has}
 use Rattle.search_site.specs.Arrays.{cellAt, speedAt, fromAt, toAt, spanAt}
-use Rattle.search_reach.specs.Reached.{reachedAt, ReachedRows}
+use Rattle.search_reach.specs.Reached.{reachedAt}
 use Rattle.search_reach.proofs.LeastLaws.{wait-made, wait-stands, wait-both, move-made, move-free}
 use Rattle.search_back.specs.Words.{waitHit, moveHit, firstMove, wordAt, Sets}
 
@@ -131,32 +131,6 @@ module _ (site : Site) (well : WellFormed site) (f : Free) (a : Node) (n k : ℕ
       let same : t ≡ a .tick = omega (arith, ltb-false (a .tick) t e) in
       let since : t - a .tick ≡ 0 = omega arith in
       rw e (ap (λ (u : ℕ). cond (has re s u) 1 0) same ∙ at-first s below (omega arith) ∙ ap (λ (i : ℕ). reachWord site f a i s) (sym since)))
-
--- ---- the first tick of a row
-
-module _ (p : ℕ → Bool) (tick h : ℕ) where
-  abbrev pub Left : ℕ → Type 0
-  Left t = least p tick (h + 1 - tick) ≡ least p t (h + 1 - t)
-
-  turn : (t : ℕ) (o : Option ℕ) → t ≤ h → p t ≡ false → o ≡ least p t (h + 1 - t) → o ≡ least p (t + 1) (h + 1 - (t + 1))
-  turn t o in-time miss e =
-      let more : h + 1 - t ≡ suc (h + 1 - (t + 1)) = omega arith in
-      let next : suc t ≡ t + 1 = omega arith in
-      e ∙ ap (least p t) more ∙ rw miss (ap (λ (u : ℕ). least p u (h + 1 - (t + 1))) next)
-
-  pub first-turn : (t : ℕ) (b : Bool) → t ≤ h → b ≡ p t → b ≡ false → Left t → Left (t + 1)
-  first-turn t b in-time is miss left = turn t _ in-time (sym is ∙ miss) left
-
-  pub first-hit : (t : ℕ) (b : Bool) → t ≤ h → b ≡ p t → b ≡ true → Left t → least p tick (h + 1 - tick) ≡ cond (leb t h) (some t) none
-  first-hit t b in-time is hit left =
-      let more : h + 1 - t ≡ suc (h - t) = omega arith in
-      let here : p t ≡ true = sym is ∙ hit in
-      left ∙ ap (least p t) more ∙ rw (here, le-leb t h in-time)
-
-  pub first-none : (t : ℕ) → h < t → Left t → least p tick (h + 1 - tick) ≡ cond (leb t h) (some t) none
-  first-none t past left =
-      let nothing : h + 1 - t ≡ 0 = omega arith in
-      left ∙ ap (least p t) nothing ∙ rw (lt-leb t h past)
 
 -- ---- the ways out of the functions
 
