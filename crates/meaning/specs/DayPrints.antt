@@ -1,5 +1,5 @@
--- What the day program prints, in the words of document 01 and of request 1 of document 02: which bytes follow from a site file and a
--- script. No reader and no printing function stands in it.
+-- What the day program prints, in the words of documents 01 and 02: which bytes follow from a site file and a script. No reader and
+-- no printing function stands in it.
 -- Assumes nothing.
 use Prim.Native.Nat.{ℕ, suc, _+_, _*_, _≤_, _<_}
 use mathlib.Core.Path.{_≡_}

@@ -78,6 +78,9 @@ all-cases = (
     day-route-7 = refl;
     day-route-8 = refl;
     day-route-10 = refl;
+    back-1 = refl;
+    back-3 = refl;
+    back-4 = refl;
     day-dwell-1000 = refl;
   },
   record {

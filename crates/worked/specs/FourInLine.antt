@@ -173,6 +173,21 @@ sized tag n = fieldsBytes (record { tag = tag; value = replicate n 1 } ∷ [])
 abbrev pub script : List ℕ
 script = fieldsBytes (closing ∷ routing ∷ posting ∷ [])
 
+-- two cells with the ticks 0 to 6, a standing state in each, and a motion of one tick each way
+abbrev pub twoCells : List ℕ
+twoCells =
+    1 ∷ 0 ∷ 5 ∷ 0 ∷ 6 ∷ 2 ∷ 0 ∷ 2
+    ∷ 2 ∷ 0 ∷ 2 ∷ 0 ∷ 0
+    ∷ 2 ∷ 0 ∷ 2 ∷ 1 ∷ 0
+    ∷ 3 ∷ 0 ∷ 11 ∷ 0 ∷ 0 ∷ 0 ∷ 1 ∷ 1 ∷ 0 ∷ 0 ∷ 1 ∷ 1 ∷ 1 ∷ 1
+    ∷ 3 ∷ 0 ∷ 11 ∷ 0 ∷ 1 ∷ 0 ∷ 0 ∷ 1 ∷ 1 ∷ 0 ∷ 1 ∷ 0 ∷ 1 ∷ 1
+    ∷ []
+
+-- close cell 1 at 2, and route tug 7 from state 1 at tick 0 to state 1, where it is, with a dwell
+abbrev pub backFor : ℕ → List ℕ
+backFor dwell =
+    fieldsBytes (record { tag = 32; value = 200 ∷ 1 ∷ 0 ∷ 2 ∷ 0 ∷ 2 ∷ [] } ∷ record { tag = 34; value = 7 ∷ 0 ∷ 1 ∷ 0 ∷ 0 ∷ 0 ∷ 1 ∷ 0 ∷ dwell ∷ [] } ∷ [])
+
 -- sites for the day program's areas: H, C, S standing states of cell 0, no motion
 abbrev pub bareSite : ℕ → ℕ → ℕ → List ℕ
 bareSite horizon cells states =
@@ -260,6 +275,10 @@ pub record AtTheDock : Type 0 where
   pub day-route-7 : dayLines siteFile (sized 34 7) ≡ line 99 0 0 ∷ []
   pub day-route-8 : dayLines siteFile (sized 34 8) ≡ line 99 0 0 ∷ []
   pub day-route-10 : dayLines siteFile (sized 34 10) ≡ line 99 0 0 ∷ []
+  -- a tug on its goal that cannot unload before the closure leaves, waits and comes back; with dwell 1 it stays
+  pub back-1 : dayLines twoCells (backFor 1) ≡ line 0 1 0 ∷ line 0 1 0 ∷ []
+  pub back-3 : dayLines twoCells (backFor 3) ≡ line 0 1 0 ∷ line 0 1 3 ∷ []
+  pub back-4 : dayLines twoCells (backFor 4) ≡ line 0 1 0 ∷ line 18 1 0 ∷ []
   -- the longest dwell, in the one cell of a hall of 1,001 ticks
   pub day-dwell-1000 : dayLines (bareSite 1000 1 1) (stayingFor 0 1000) ≡ line 0 0 0 ∷ []
 
