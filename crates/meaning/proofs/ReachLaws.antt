@@ -534,7 +534,7 @@ module _ (site : Site) (well : WellFormed site) (f : Free) (a : Node) where
       let got : Arrives goal dwell r = found-arrives goal dwell r h in
       rw (got .on-tick) (got .unloads)
 
-  -- no valid plan from which it can arrives earlier
+  -- no valid plan that can unload at its end arrives earlier
   pub route-earliest : (goal dwell t : ℕ) (r : Route) (ps : List Step) → findRoute site f a goal dwell ≡ some r
       → planEnd site f a ps ≡ some (at goal t) → canUnload site f (at goal t) dwell ≡ true → r .arrival ≤ t
   route-earliest goal dwell t r ps h p unloads =
@@ -544,7 +544,7 @@ module _ (site : Site) (well : WellFormed site) (f : Free) (a : Node) where
       (λ e. let le : got .after-start ≤ j = leb-true _ _ e in omega (arith, got .on-tick))
       (λ e. absurd (true≢false (sym (every-cons _ _ there-too (every-cons _ _ (rw same at unloads) every-nil)) ∙ got .not-before j (leb-false _ _ e))))
 
-  -- where some valid plan exists, a route is found
+  -- where some valid plan exists that can, a route is found
   pub route-exists : (goal dwell t : ℕ) (ps : List Step) → planEnd site f a ps ≡ some (at goal t) → canUnload site f (at goal t) dwell ≡ true
       → (r : Route) × (findRoute site f a goal dwell ≡ some r)
   unfolding findRoute routeIn tracedRoute

@@ -28,7 +28,7 @@ sweepLimit = 16
 abbrev pub lightLimit : ℕ
 lightLimit = 5018
 
--- the ticks that a tug unloads at its goal
+-- a dwell: the ticks that a tug unloads on its goal cell
 abbrev pub dwellLimit : ℕ
 dwellLimit = 1000
 

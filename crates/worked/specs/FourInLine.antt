@@ -55,7 +55,7 @@ posted light board = boardOf (called board (listed (post light)))
 unfoldable pub lightFor : List ℕ → Node → ℕ → ℕ → List ℕ
 lightFor board a goal dwell = lightOut (called board (listed (route 7 a goal dwell)))
 
--- tug 7's route: the steps and the arrival of the light that it writes, or its number
+-- tug 7's route with a dwell: the steps and the arrival of the light that it writes, or its number
 abbrev pub found : List Step → ℕ → Answer Route
 found ps t = accepted (record { steps = ps; arrival = t })
 
