@@ -1,8 +1,9 @@
 //! The time of the whole route call, the desk's and the plain program's, on generated sites of 200 states,
 //! 1,000 motions and H 1,000, with at most a tenth of the board held and at least 400 ticks from start to arrival.
 //! Each dwell has a table of its own, over sites and boards from the same seed; those of dwell 0 are as they were before there was a dwell.
+//! Last comes the time of the site's check alone, which every call begins with.
 //!
-//! `./bench`; ROUTES sets how many routes for each dwell (1,000) and SEED the seed (1).
+//! `./bench`; ROUTES sets how many routes for each dwell (1,000; 0 for none), SITES how many sites for the check (1,000) and SEED the seed (1).
 //!
 //! HOW, which is printed first, says how sites and boards are made.
 
@@ -23,7 +24,9 @@ Sites:
 Boards: held in short runs (1 to 4 ticks), in long runs (5 to 60 ticks), both up to nine in a hundred pairs, or in
 few runs (one in a hundred). Where the goal is nearer, its cell is held from tick 0 up to a tick of 400 to 900.
 With a dwell, in half of these the cell is held before that tick only here and there, so that tugs reach the goal
-but can't unload.";
+but can't unload.
+The site's check is an open with no board, which is refused with 7 once the site has passed. It has one kind of site more:
+- adjoining: 200 cells, span 14, 16 sweeps of one offset each, the last offset first, so that no sweep hands over alone.";
 
 /// The times at the dock, in ticks.
 const DWELLS: [u16; 2] = [0, 50];
@@ -64,6 +67,23 @@ fn scattered(rng: &mut Rng, c: usize, span: (usize, usize), sweeps: usize) -> Si
         })
         .collect();
     Site { h: H, c, states, motions }
+}
+
+/// Each motion leaves its cell offset by offset and takes the next one so; both are used at one offset.
+fn adjoining(rng: &mut Rng) -> Site {
+    const SPAN: u8 = 14;
+    let states: Vec<State> = (0..STATES).map(|i| State { cell: i as u8, speed: 0 }).collect();
+    let motions = (0..MOTIONS)
+        .map(|k| {
+            let from = k % STATES;
+            let to = (from + rng.range(1, STATES - 1)) % STATES;
+            let both = rng.range(0, SPAN as usize) as u8;
+            let leaves = (0..=both).map(|j| Sweep { cell: from as u8, a: j, b: j });
+            let takes = (both..=SPAN).map(|j| Sweep { cell: to as u8, a: j, b: j });
+            Motion { from: from as u16, to: to as u16, d: SPAN, sweeps: leaves.chain(takes).rev().collect() }
+        })
+        .collect();
+    Site { h: H, c: STATES, states, motions }
 }
 
 fn corridor(rng: &mut Rng) -> Site {
@@ -114,18 +134,23 @@ struct Case {
     dwell: u16,
 }
 
-const SITES: [&str; 4] = ["grid", "random", "long", "corridor"];
+const SITES: [&str; 5] = ["grid", "random", "long", "corridor", "adjoining"];
 const BOARDS: [&str; 3] = ["short runs", "long runs", "few runs"];
+
+fn site(rng: &mut Rng, kind: usize) -> Site {
+    match kind {
+        0 => grid(rng),
+        1 => scattered(rng, 100, (1, 8), 4),
+        2 => scattered(rng, 200, (10, 120), 16),
+        3 => corridor(rng),
+        _ => adjoining(rng),
+    }
+}
 
 /// A case of a kind, with an arrival at least 400 ticks after its start.
 fn case(rng: &mut Rng, kind: usize, dwell: u16, out: &mut [u8], work: &mut [u32]) -> Case {
     loop {
-        let site = match kind / 3 {
-            0 => grid(rng),
-            1 => scattered(rng, 100, (1, 8), 4),
-            2 => scattered(rng, 200, (10, 120), 16),
-            _ => corridor(rng),
-        };
+        let site = site(rng, kind / 3);
         let (percent, run) = [(9, (1, 4)), (9, (5, 60)), (1, (5, 60))][kind % 3];
         let booked = board(rng, &site, percent, run);
         let file = encode(&site);
@@ -217,10 +242,42 @@ fn measure(routes: usize, seed: u64, dwell: u16) {
     println!("{:22} {:>6} {by_desk:>9.0} {by_plain:>9.0} {:>7.2}", "all", all.0.len(), by_desk / by_plain);
 }
 
+type Open = fn(&[u8], &mut [u8]) -> Answer;
+
+/// The time of one site's check, in microseconds.
+fn check_time(open: Open, file: &[u8]) -> f64 {
+    let began = Instant::now();
+    let answer = open(black_box(file), &mut []);
+    let took = began.elapsed().as_secs_f64() * 1e6;
+    assert!(answer == Answer::plain(7), "a site of the bench is refused: {answer:?}");
+    took
+}
+
+/// The site's check: a line for each kind of site.
+fn measure_checks(sites: usize, seed: u64) {
+    let mut rng = Rng::new(seed);
+    println!("\nthe site's check\n{:22} {:>6} {:>9} {:>9} {:>7}", "site", "sites", "desk", "plain", "ratio");
+    for (kind, name) in SITES.into_iter().enumerate() {
+        let files: Vec<Vec<u8>> = (0..sites.div_ceil(SITES.len())).map(|_| encode(&site(&mut rng, kind))).collect();
+        let (mut desk_times, mut plain_times) = (vec![f64::INFINITY; files.len()], vec![f64::INFINITY; files.len()]);
+        // The shortest of twenty turns counts, as a check is so short that other work disturbs most of them. Each turn goes over all sites, so
+        // that the processor does not learn one of them by heart.
+        for _ in 0..20 {
+            for (i, file) in files.iter().enumerate() {
+                desk_times[i] = desk_times[i].min(check_time(desk::open, file));
+                plain_times[i] = plain_times[i].min(check_time(plain::open, file));
+            }
+        }
+        let (by_desk, by_plain) = (median(&mut desk_times), median(&mut plain_times));
+        println!("{name:22} {:>6} {by_desk:>9.1} {by_plain:>9.1} {:>7.2}", files.len(), by_desk / by_plain);
+    }
+}
+
 fn main() {
-    let (routes, seed) = (setting("ROUTES", 1_000) as usize, setting("SEED", 1));
-    println!("{HOW}\n\n{routes} routes for each dwell, seed {seed}; microseconds for the whole call, checks and zeroed words included, median");
-    for dwell in DWELLS {
+    let (routes, sites, seed) = (setting("ROUTES", 1_000) as usize, setting("SITES", 1_000) as usize, setting("SEED", 1));
+    println!("{HOW}\n\n{routes} routes for each dwell, {sites} sites, seed {seed}; microseconds for the whole call, checks and zeroed words included, median");
+    for dwell in DWELLS.into_iter().filter(|_| routes > 0) {
         measure(routes, seed, dwell);
     }
+    measure_checks(sites, seed);
 }
