@@ -2,14 +2,14 @@
 //! With a fault named in the environment variable DESK_FAULT it is wrong in one way, and the tests must notice.
 
 use crate::desk::Answer;
-use crate::literal::{fields, number, put, with_head, Light, Site, Step, MAX_DWELL};
+use crate::literal::{fields, number, put, with_head, Light, Site, Step, Sweep, MAX_DWELL};
 use std::sync::OnceLock;
 
 /// The faults: those of document 01 under "Wrong desks", then smaller ones, then refusals of a call in the wrong order, then those of the day
 /// program with an empty script, then those of the time at the dock: the search, what is checked and held, number 10, layouts and areas, the
-/// day program.
+/// day program; last those of where a sweep uses its cell.
 #[rustfmt::skip]
-pub const FAULTS: [&str; 80] = [
+pub const FAULTS: [&str; 83] = [
     "earliest", "endpoints", "rolling", "swap", "no-plan", "empty-light", "first-step", "no-mark", "light-edition", "interval-end",
     "unmerged", "highest", "motion-first", "edition", "work-kept", "work-long", "tail", "refused-write", "low-byte", "unknown-free",
     "withdraw-edition", "interval-tail", "board-longer", "light-trailing", "stands-edition", "arrival",
@@ -22,6 +22,7 @@ pub const FAULTS: [&str; 80] = [
     "dwell-1001", "dwell-1000", "dwell-unlimited-route", "dwell-unlimited-light", "dwell-limit-late", "dwell-horizon-10",
     "dwell-swapped", "dwell-lost", "dwell-old-head", "dwell-old-limit", "dwell-wide-limit", "dwell-old-area", "dwell-wide-area",
     "day-dwell-goal", "day-dwell-first", "day-dwell-swapped", "day-dwell-low-byte", "day-dwell-old-field",
+    "sweep-one-start", "sweep-one-end", "sweep-hull",
 ];
 
 pub fn fault(name: &str) -> bool {
@@ -55,6 +56,15 @@ fn enter(file: &[u8], board: &[u8]) -> Result<Site, u8> {
         Err(5) if fault("site-5-6") => Err(Site::read(&cells_within(file)).err().unwrap_or(5)),
         Err(6) if fault("site-6-7") && board.len() != 4 + file[5] as usize * (number(&file[3..5]) + 1) => Err(7),
         Err(6) if fault("swap") => unhanded(file),
+        Err(6) if fault("sweep-one-start") => widened(file, |sweep, _, _| sweep[1] = 0),
+        Err(6) if fault("sweep-one-end") => widened(file, |sweep, d, _| sweep[2] = d),
+        Err(6) if fault("sweep-hull") => widened(file, |sweep, _, all| {
+            let cell = sweep[0];
+            for other in all.chunks_exact(3).filter(|other| other[0] == cell) {
+                sweep[1] = sweep[1].min(other[1]);
+                sweep[2] = sweep[2].max(other[2]);
+            }
+        }),
         other => other,
     }?;
     let fits = board.len() == site.board_len() || (fault("board-longer") && board.len() > site.board_len());
@@ -93,6 +103,26 @@ fn unhanded(file: &[u8]) -> Result<Site, u8> {
     let mut site = Site::read(&bytes)?;
     for motion in &mut site.motions {
         motion.sweeps.pop();
+    }
+    Ok(site)
+}
+
+/// Checks motions as if each sweep used its cell at more offsets. `widen` gets a sweep, the span and all sweeps as they were.
+fn widened(file: &[u8], widen: impl Fn(&mut [u8], u8, &[u8])) -> Result<Site, u8> {
+    let mut bytes = Vec::new();
+    let mut written = Vec::new();
+    for (tag, value) in fields(file).unwrap() {
+        let mut value = value.to_vec();
+        if tag == 3 {
+            let (d, sweeps) = (value[4], value[5..].to_vec());
+            value[5..].chunks_exact_mut(3).for_each(|sweep| widen(sweep, d, &sweeps));
+            written.push(sweeps);
+        }
+        put(&mut bytes, tag, &value);
+    }
+    let mut site = Site::read(&bytes)?;
+    for (motion, sweeps) in site.motions.iter_mut().zip(written) {
+        motion.sweeps = sweeps.chunks_exact(3).map(|w| Sweep { cell: w[0], a: w[1], b: w[2] }).collect();
     }
     Ok(site)
 }
