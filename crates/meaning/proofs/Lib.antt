@@ -1,4 +1,5 @@
 pub mod BasicsLaws
+pub mod RunLaws
 pub mod AnswersLaws
 pub mod HolderLaws
 pub mod FieldsLaws

@@ -7,10 +7,11 @@ use mathlib.Core.Bool.{Bool, true, _&&_, not}
 use mathlib.Core.List.{List}
 use lib.ListN.{length, getD}
 use lib.Dec.{leb, ltb, eqb}
-use borrow.Author.Tests.{leb-true, le-leb, ltb-true, lt-ltb, eqb-true, eqb-false, eq-eqb, ne-eqb, not-true}
+use borrow.Author.Tests.{leb-true, le-leb, ltb-true, lt-ltb, eqb-false, ne-eqb, not-true}
 use Rattle.meaning.specs.Basics.{all, allBelow}
 use Rattle.meaning.specs.Site.{Site, Sweep, Motion, cellOf, covers, uses, carries, handover, sweepGood, endsGood, sweepsGood, motionGood, noMotion, motionAt, State, noState}
 use Rattle.meaning.specs.WellFormed.{Uses, GoodMotion, WellFormed}
+use Rattle.meaning.proofs.RunLaws.{covered, all-covered}
 use Rattle.meaning.proofs.BasicsLaws.{and-left, and-right, some-any, any-some, any-at, each-all, all-each, below-at, below-all, each-at}
 
 -- ---- three and four tests that hold
@@ -26,21 +27,13 @@ and-four w x y z h = let (a, b, c) = and-three w x y (and-left (w && x && y) z h
 abbrev Covers : ℕ → ℕ → Sweep → Type 0
 Covers c j w = (w .cell ≡ c) × (w .first ≤ j) × (j ≤ w .last)
 
-covers-true : (c j : ℕ) (w : Sweep) → covers c j w ≡ true → Covers c j w
-covers-true c j w h =
-    let (x, y, z) = and-three (eqb (w .cell) c) (leb (w .first) j) (leb j (w .last)) h in
-    (eqb-true (w .cell) c x, leb-true (w .first) j y, leb-true j (w .last) z)
-
-true-covers : (c j : ℕ) (w : Sweep) → Covers c j w → covers c j w ≡ true
-true-covers c j w (x, y, z) = simp (eq-eqb (w .cell) c x, le-leb (w .first) j y, le-leb j (w .last) z)
-
 pub uses-true : (ws : List Sweep) (c j : ℕ) → uses ws c j ≡ true → Uses ws c j
 unfolding uses
-uses-true ws c j h = any-some (Covers c j) (covers c j) (covers-true c j) ws h
+uses-true ws c j h = any-some (Covers c j) (covers c j) (covered c j) ws h
 
 pub true-uses : (ws : List Sweep) (c j : ℕ) → Uses ws c j → uses ws c j ≡ true
 unfolding uses
-true-uses ws c j h = some-any (Covers c j) (covers c j) (true-covers c j) h
+true-uses ws c j h = some-any (Covers c j) (covers c j) (all-covered c j) h
 
 -- ---- handover
 

@@ -1,6 +1,6 @@
 -- All theorems about the definitions, each as it is stated in specs/.
 -- Assumes nothing.
-use Rattle.meaning.specs.Laws.{LowestRight, RefusalsRise, HoldersRight, SitesRight, LightsRight, PlansRight, DwellRight, SearchRight, IntervalsRight, HandoverRight, DayRight}
+use Rattle.meaning.specs.Laws.{LowestRight, RefusalsRise, HoldersRight, MeetsRight, SitesRight, LightsRight, PlansRight, DwellRight, SearchRight, IntervalsRight, HandoverRight, DayRight}
 use Rattle.meaning.specs.Refusals.{RefusalsSay, BytesRight, PlainRight}
 use Rattle.meaning.specs.Demands.{Desk, Exact, meantDesk, Demand1, Demand2, Demand3}
 use Rattle.meaning.proofs.AnswersLaws.{lowest-right, refusals-rise}
@@ -8,6 +8,7 @@ use Rattle.meaning.proofs.BytesLaws.{bytes-right}
 use Rattle.meaning.proofs.RefusalLaws.{plain-right}
 use Rattle.meaning.proofs.SiteRefusalLaws.{refusals-say}
 use Rattle.meaning.proofs.HolderLaws.{holders-right}
+use Rattle.meaning.proofs.RunLaws.{meets-right}
 use Rattle.meaning.proofs.SiteLaws.{sites-right}
 use Rattle.meaning.proofs.LightLaws.{lights-right}
 use Rattle.meaning.proofs.PlanLaws.{plans-right}
@@ -28,6 +29,7 @@ pub record AllLaws : Type 0 where
   pub bytes : BytesRight
   pub plain : PlainRight
   pub holders : HoldersRight
+  pub meets : MeetsRight
   pub sites : SitesRight
   pub lights : LightsRight
   pub plans : PlansRight
@@ -45,6 +47,7 @@ all-laws = record {
   bytes = bytes-right;
   plain = plain-right;
   holders = holders-right;
+  meets = meets-right;
   sites = sites-right;
   lights = lights-right;
   plans = plans-right;

@@ -8,9 +8,10 @@ use mathlib.Core.Option.{Option, none, some}
 use mathlib.Core.List.{List, [], _∷_, _++_}
 use lib.ListN.{length, drop}
 use Rattle.meaning.specs.Basics.{Each, Some, Bytes}
+use Rattle.meaning.specs.Runs.{meets, Meet}
 use Rattle.meaning.specs.Answers.{Refusal, lowest, RiseFrom, accepted, refused}
 use Rattle.meaning.specs.Fields.{Field, fields}
-use Rattle.meaning.specs.Site.{Site, stateAt, cellOf, siteRefusals, readSite}
+use Rattle.meaning.specs.Site.{Site, Sweep, stateAt, cellOf, covers, siteRefusals, readSite}
 use Rattle.meaning.specs.Board.{Free, isTug, isClosure, isHolder}
 use Rattle.meaning.specs.Plan.{Step, wait, Node, planEnd, canUnload, planPairs}
 use Rattle.meaning.specs.Reach.{reachWord, Route, findRoute}
@@ -44,6 +45,13 @@ pub record HoldersRight : Type 0 where
   pub holders : (h : ℕ) → isHolder h ≡ true → (1 ≤ h) × (h ≤ 254)
   pub all-holders : (h : ℕ) → 1 ≤ h → h ≤ 254 → isHolder h ≡ true
   pub not-255 : isHolder 255 ≡ false
+
+-- the one comparison says yes exactly when some tick lies in both runs, for any ends, and so decides when a sweep uses its cell at an offset
+pub record MeetsRight : Type 0 where
+  pub met : (a b c d : ℕ) → meets a b c d ≡ true → Meet a b c d
+  pub all-met : (a b c d : ℕ) → Meet a b c d → meets a b c d ≡ true
+  pub covered : (c j : ℕ) (w : Sweep) → covers c j w ≡ true → (w .cell ≡ c) × (w .first ≤ j) × (j ≤ w .last)
+  pub all-covered : (c j : ℕ) (w : Sweep) → (w .cell ≡ c) × (w .first ≤ j) × (j ≤ w .last) → covers c j w ≡ true
 
 -- a file of bytes is accepted exactly when it is the file of a well-formed site of at most 65,536 bytes, and it is read as that site
 pub record SitesRight : Type 0 where

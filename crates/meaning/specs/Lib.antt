@@ -1,5 +1,6 @@
 pub mod Limits
 pub mod Basics
+pub mod Runs
 pub mod Answers
 pub mod Fields
 pub mod Site

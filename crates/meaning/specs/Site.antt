@@ -7,6 +7,7 @@ use lib.ListN.{length, getD, take, drop}
 use lib.Dec.{leb, ltb, eqb}
 use Rattle.meaning.specs.Limits.{fileLimit, horizonLimit, cellLimit, stateLimit, motionLimit, sweepLimit, headTag, stateTag, motionTag, headSize, stateSize, motionSize, sweepSize}
 use Rattle.meaning.specs.Basics.{any, all, allBelow, within, u16At}
+use Rattle.meaning.specs.Runs.{meets}
 use Rattle.meaning.specs.Answers.{Refusal, _if_, lowest, Answer, answer}
 use Rattle.meaning.specs.Fields.{Field, noField, fields, complete, listed}
 
@@ -127,9 +128,9 @@ cellGood cells s = ltb (s .cell) cells
 
 -- ---- 6: a motion's values and sweeps
 
--- the sweep uses the cell at the offset
+-- the sweep uses the cell at the offset: its run meets the run of that offset alone
 abbrev pub covers : ℕ → ℕ → Sweep → Bool
-covers cell offset w = eqb (w .cell) cell && leb (w .first) offset && leb offset (w .last)
+covers cell offset w = eqb (w .cell) cell && meets (w .first) (w .last) offset offset
 
 -- some sweep does
 unfoldable pub uses : List Sweep → ℕ → ℕ → Bool

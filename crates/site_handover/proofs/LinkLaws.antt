@@ -1,16 +1,29 @@
 -- Laws of the offsets that single sweeps link, and of a test of all offsets below a span.
 -- Assumes nothing.
 use Prim.Native.Nat.{ℕ, zero, suc, _+_, _≤_, _<_}
-use mathlib.Core.Path.{_≡_, refl}
+use mathlib.Core.Path.{_≡_, refl, sym, _∙_}
 use mathlib.Core.List.{List}
 use mathlib.Core.Bool.{Bool, true, false, _&&_, and-false}
 use native.Mathlib.Omega.{arith}
 use lib.Dec.{eqb, ltb}
-use borrow.Author.Tests.{eqb-true, eqb-false, ltb-true, ltb-false, le-leb, eq-eqb}
+use borrow.Author.Tests.{eqb-true, eqb-false, ltb-true, ltb-false}
 use Rattle.meaning.specs.Basics.{any, allBelow}
+use Rattle.meaning.specs.Runs.{meets}
 use Rattle.meaning.specs.Site.{Sweep, covers, uses, carries, handover}
 use Rattle.meaning.proofs.BasicsLaws.{decide, below-at, below-all}
-use Rattle.site_handover.specs.Links.{Within, Linked}
+use Rattle.meaning.proofs.RunLaws.{lies-in, all-covered}
+use Rattle.site_handover.specs.Links.{lastFrom, Linked}
+
+-- ---- the last offset of a sweep that uses j
+
+module _ (w : Sweep) (j : ℕ) {b : Bool} (e : b ≡ meets (w .first) (w .last) j j) where
+  pub last-used : b ≡ true → w .last ≡ lastFrom w j
+  unfolding lastFrom
+  last-used t = rw (sym e ∙ t)
+
+  pub last-unused : b ≡ false → j ≡ lastFrom w j
+  unfolding lastFrom
+  last-unused t = rw (sym e ∙ t)
 
 -- ---- handovers by one sweep
 
@@ -18,25 +31,30 @@ use Rattle.site_handover.specs.Links.{Within, Linked}
 abbrev pub Among : List Sweep → Sweep → Type 0
 Among ws w = (p : Sweep → Bool) → p w ≡ true → any p ws ≡ true
 
-covered : (w : Sweep) (i : ℕ) → w .first ≤ i → i ≤ w .last → covers (w .cell) i w ≡ true
-covered w i h k = simp (eq-eqb (w .cell) (w .cell) refl, le-leb (w .first) i h, le-leb i (w .last) k)
-
 by-one : (ws : List Sweep) (w : Sweep) → Among ws w → (i : ℕ) → w .first ≤ i → i + 1 ≤ w .last → handover ws i ≡ true
 unfolding handover uses
-by-one ws w m i h k =
-    m (carries ws i) (simp (m (covers (w .cell) i) (covered w i h (omega arith)), m (covers (w .cell) (i + 1)) (covered w (i + 1) (omega arith) k)))
+by-one ws w m i lo hi =
+    let now : uses ws (w .cell) i ≡ true = m (covers (w .cell) i) (all-covered (w .cell) i w (refl, lo, omega arith)) in
+    let next : uses ws (w .cell) (i + 1) ≡ true = m (covers (w .cell) (i + 1)) (all-covered (w .cell) (i + 1) w (refl, omega arith, hi)) in
+    m (carries ws i) (simp (now, next))
 
 pub linked-none : (ws : List Sweep) (j : ℕ) → Linked ws j j
 linked-none ws j = record { on = omega arith; each = λ i h k. absurd (omega arith) }
 
 -- a sweep that uses the offset r lengthens what is linked up to r
-pub linked-on : (ws : List Sweep) (w : Sweep) → Among ws w → (j r q : ℕ) → Linked ws j r → Within w r q → Linked ws j q
-linked-on ws w m j r q l v =
+longer : (ws : List Sweep) (w : Sweep) → Among ws w → (j r : ℕ) → w .first ≤ r → r ≤ w .last → Linked ws j r → Linked ws j (w .last)
+longer ws w m j r lo hi l =
     record {
-      on = let a = l .on in let b = v .on in omega arith;
-      each = λ i h k. decide (ltb i r) (λ e. l .each i h (ltb-true i r e))
-          (λ e. let low = ltb-false i r e in let (a, b) = v .inside (omega arith) in by-one ws w m i (omega arith) (omega arith));
+      on = let a = l .on in omega arith;
+      each = λ i h k. decide (ltb i r) (λ e. l .each i h (ltb-true i r e)) (λ e. let low = ltb-false i r e in by-one ws w m i (omega arith) (omega arith));
     }
+
+pub linked-on : (ws : List Sweep) (w : Sweep) → Among ws w → (j r q : ℕ) → Linked ws j r → q ≡ lastFrom w r → Linked ws j q
+unfolding lastFrom
+linked-on ws w m j r q l e =
+    decide (meets (w .first) (w .last) r r)
+    (λ t. let (lo, hi) = lies-in (w .first) (w .last) r t in rw (e, t) (longer ws w m j r lo hi l))
+    (λ t. rw (e, t) l)
 
 pub linked-next : (ws : List Sweep) (j : ℕ) → handover ws j ≡ true → Linked ws j (j + 1)
 linked-next ws j e = record { on = omega arith; each = λ i h k. let same : i ≡ j = omega arith in rw same e }

@@ -8,7 +8,7 @@ ghost use Rattle.meaning.specs.Limits.{sweepSize};
 ghost use Rattle.meaning.specs.Basics.{allBelow};
 ghost use Rattle.meaning.specs.Site.{uses, handover, sweepsGood};
 ghost use Rattle.site_sweeps.specs.Places.{sweepsAt, sweepOf};
-ghost use Rattle.site_handover.specs.Links.{Within, Linked};
+ghost use Rattle.site_handover.specs.Links.{lastFrom, Linked};
 
 // The cell is used at both `j` and `j` + 1.
 fn carried(file: &[u8], at: usize, count: usize, cell: usize, j: u8) -> bool
@@ -40,15 +40,12 @@ fn handed_over(file: &[u8], at: usize, count: usize, j: u8) -> bool
 
 // The last offset of the sweep, if the sweep uses the offset `j`; else `j`.
 fn last_from(w: Sweep, j: u8) -> u8
-    ensures { λ r. ⌜ Within (sweepOf w) j r ⌝ }
+    ensures { λ r. ⌜ r ≡ lastFrom (sweepOf w) j ⌝ }
 {
-    if j < w.first {
-        return j;
+    if site_sweeps::meets(w.first, w.last, j, j) {
+        return w.last;
     }
-    if w.last < j {
-        return j;
-    }
-    w.last
+    j
 }
 
 // An offset up to which single sweeps, one after the other, hand over from `j` on.

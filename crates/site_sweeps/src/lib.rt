@@ -1,9 +1,11 @@
 // The sweeps of one motion, where they stand in a site file: what they use, and that they keep to the cells and the span.
 ghost use mathlib.Core.Path.{_≡_};
-ghost use Prim.Native.Nat.{_+_, _*_, _<_, _≤_};
+ghost use mathlib.Core.Bool.{true};
+ghost use Prim.Native.Nat.{_+_, _*_, _<_, _≤_, max, min};
 ghost use lib.ListN.{length};
 ghost use Rattle.meaning.specs.Limits.{sweepSize};
 ghost use Rattle.meaning.specs.Basics.{all};
+ghost use Rattle.meaning.specs.Runs.{meets, Meet};
 ghost use Rattle.meaning.specs.Site.{covers, uses, sweepGood};
 ghost use Rattle.site_sweeps.specs.Places.{sweepAt, sweepsAt, sweepOf, SweepIs};
 
@@ -30,17 +32,43 @@ pub fn read_sweep(file: &[u8], at: usize, i: usize) -> Sweep
     }
 }
 
-// The sweep uses the cell at the offset `t`.
+// The later of two starts.
+fn later(a: u8, c: u8) -> u8
+    ensures { λ r. ⌜ r ≡ max a c ⌝ }
+{
+    if a <= c {
+        return c;
+    }
+    a
+}
+
+// The earlier of two ends.
+fn earlier(b: u8, d: u8) -> u8
+    ensures { λ r. ⌜ r ≡ min b d ⌝ }
+{
+    if b <= d {
+        return b;
+    }
+    d
+}
+
+// Do the runs from `a` to `b` and from `c` to `d`, both ends included, meet? Yes exactly when some tick lies in both, for any ends: a run
+// whose end lies before its start has no tick.
+pub fn meets(a: u8, b: u8, c: u8, d: u8) -> bool
+    ensures { λ r. ⌜ r ≡ meets a b c d ⌝ }
+    ensures { λ r. ⌜ (r ≡ true → Meet a b c d) × (Meet a b c d → r ≡ true) ⌝ }
+{
+    later(a, c) <= earlier(b, d)
+}
+
+// The sweep uses the cell at the offset `t`: its run meets the run of `t` alone.
 fn covers(w: Sweep, cell: usize, t: u8) -> bool
     ensures { λ r. ⌜ r ≡ covers cell t (sweepOf w) ⌝ }
 {
     if w.cell != cell {
         return false;
     }
-    if t < w.first {
-        return false;
-    }
-    t <= w.last
+    meets(w.first, w.last, t, t)
 }
 
 // Some one of `count` sweeps from `at` on uses the cell at the offset `t`.

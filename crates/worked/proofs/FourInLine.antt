@@ -2,6 +2,7 @@
 -- Assumes nothing.
 use mathlib.Core.Path.{refl}
 use Rattle.meaning.specs.Basics.{every, any, all, allBelow, within}
+use Rattle.meaning.specs.Runs.{meets}
 use Rattle.meaning.specs.Answers.{lowest, answer}
 use Rattle.meaning.specs.Fields.{split, fields, complete, listed}
 use Rattle.meaning.specs.Site.{sweepsOf, stateOf, motionOf, headOf, laterOf, stateCount, siteOf, headGood, isState, sweepCount, isMotion, motionsLaid, layoutGood, uses, handover, endsGood, sweepsGood, motionGood, siteRefusals, readSite}
@@ -15,7 +16,7 @@ use Rattle.meaning.specs.Day.{callOf, dayDone, linesFrom, dayLines, decimal}
 use Rattle.worked.specs.FourInLine.{called, fresh, closed, posted, lightFor, unloading, boardB, boardC, boardD, boardN, lightA, postedA, audited, boardDock, postedDwell, lentRoute, lentInterval, Starred, AtTheDock, Computed}
 
 pub all-cases : Starred × AtTheDock × Computed
-unfolding every any all allBelow within lowest answer split fields complete listed
+unfolding every any all allBelow within meets lowest answer split fields complete listed
     sweepsOf stateOf motionOf headOf laterOf stateCount siteOf headGood isState sweepCount isMotion motionsLaid layoutGood uses handover endsGood sweepsGood motionGood siteRefusals readSite
     sortOf isTug isClosure isHolder free stands clear withEdition nextEdition
     allowed walk startFree planEnd canUnload planPairs byWait byMotion word firstRow withRow rowsTo trace tracedRoute routeIn findRoute

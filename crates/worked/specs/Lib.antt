@@ -1,1 +1,2 @@
 pub mod FourInLine
+pub mod Runs

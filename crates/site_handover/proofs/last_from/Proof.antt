@@ -1,17 +1,19 @@
--- `site_handover::last_from` meets its contract: the sweep has begun at j, and has not ended before it.
+-- `site_handover::last_from` meets its contract.
 -- Assumes nothing.
-use native.Mathlib.Omega.{arith}
+use borrow.Author.Needs.{needs}
+use Rattle.site_handover.proofs.LinkLaws.{last-used, last-unused}
+use Rattle.site_sweeps.specs.Places.{sweepOf}
 use Rattle.site_handover.proofs.last_from.Statement.{statement}
 use Rattle.site_handover.proofs.last_from.Tie as tie
 
+meets-requires : tie.Need-meets-requires
+meets-requires c κs = search needs
+
 returns : tie.Need-returns
-returns c = record { on = omega arith; inside = λ h. absurd (omega arith) }
+returns c = let a = c .before .before .args in last-used (sweepOf (a .w)) (a .j) (c .before .meets .ensures .0) (c .if1 .taken)
 
 returns-2 : tie.Need-returns-2
-returns-2 c = record { on = omega arith; inside = λ h. absurd (omega arith) }
-
-returns-3 : tie.Need-returns-3
-returns-3 c = record { on = omega arith; inside = λ h. (omega arith, omega arith) }
+returns-2 c = let a = c .before .before .args in last-unused (sweepOf (a .w)) (a .j) (c .before .meets .ensures .0) (c .if1 .left)
 
 pub last-from-spec : {M : Type 1} → statement M
-last-from-spec = tie.close (tie.spec returns returns-2 returns-3)
+last-from-spec = tie.close (tie.spec meets-requires returns returns-2)

@@ -1,0 +1,19 @@
+-- Runs of ticks, both ends included, and when two of them meet. A run whose end lies before its start has no tick.
+-- Assumes nothing.
+use Prim.Native.Nat.{ℕ, _≤_, max, min}
+use mathlib.Core.Bool.{Bool}
+use lib.Dec.{leb}
+
+-- the runs from a to b and from c to d meet: the later start is not past the earlier end
+unfoldable pub meets : ℕ → ℕ → ℕ → ℕ → Bool
+meets a b c d = leb (max a c) (min b d)
+
+-- ---- the same in words
+
+-- the tick t lies in the run from a to b
+abbrev pub LiesIn : ℕ → ℕ → ℕ → Type 0
+LiesIn a b t = (a ≤ t) × (t ≤ b)
+
+-- some tick lies in both runs
+abbrev pub Meet : ℕ → ℕ → ℕ → ℕ → Type 0
+Meet a b c d = (t : ℕ) × LiesIn a b t × LiesIn c d t
