@@ -1,20 +1,30 @@
--- Laws of the offsets that single sweeps link, and of a test of all offsets below a span.
+-- Laws of what one sweep hands over, of the offsets that single sweeps link, and of a test of all offsets below a span.
 -- Assumes nothing.
 use Prim.Native.Nat.{ℕ, zero, suc, _+_, _≤_, _<_}
 use mathlib.Core.Path.{_≡_, refl, sym, _∙_}
 use mathlib.Core.List.{List}
 use mathlib.Core.Bool.{Bool, true, false, _&&_, and-false}
 use native.Mathlib.Omega.{arith}
+use native.Mathlib.Numerals.{add-one}
+use lib.ListN.{getD}
 use lib.Dec.{eqb, ltb}
 use borrow.Author.Tests.{eqb-true, eqb-false, ltb-true, ltb-false}
 use Rattle.meaning.specs.Basics.{any, allBelow}
 use Rattle.meaning.specs.Runs.{meets}
-use Rattle.meaning.specs.Site.{Sweep, covers, uses, carries, handover}
-use Rattle.meaning.proofs.BasicsLaws.{decide, below-at, below-all}
-use Rattle.meaning.proofs.RunLaws.{lies-in, all-covered}
-use Rattle.site_handover.specs.Links.{lastFrom, Linked}
+use Rattle.meaning.specs.Site.{Sweep, covers, uses, handover}
+use Rattle.meaning.proofs.BasicsLaws.{decide, and-left, and-right, any-at, any-from, any-some, some-any, same-test, below-at, below-all}
+use Rattle.meaning.proofs.RunLaws.{lies-in, in-meets, covered, all-covered}
+use Rattle.meaning.proofs.MotionLaws.{uses-true, true-uses, handover-true, true-handover}
+use Rattle.site_handover.specs.Links.{handsOver, lastFrom, Linked}
 
 -- ---- the last offset of a sweep that uses j
+
+pub last-early : (w : Sweep) (j : ℕ) → w .last ≤ j → j ≡ lastFrom w j
+unfolding lastFrom
+last-early w j h =
+    decide (meets (w .first) (w .last) j j)
+    (λ t. let (lo, hi) = lies-in (w .first) (w .last) j t in let same : j ≡ w .last = omega arith in rw t same)
+    (λ t. rw t)
 
 module _ (w : Sweep) (j : ℕ) {b : Bool} (e : b ≡ meets (w .first) (w .last) j j) where
   pub last-used : b ≡ true → w .last ≡ lastFrom w j
@@ -25,6 +35,28 @@ module _ (w : Sweep) (j : ℕ) {b : Bool} (e : b ≡ meets (w .first) (w .last) 
   unfolding lastFrom
   last-unused t = rw (sym e ∙ t)
 
+-- ---- a handover at j, by a sweep that uses j
+
+pub hands-over : (ws : List Sweep) (j : ℕ) → any (handsOver ws j) ws ≡ handover ws j
+hands-over ws j = same-test (any (handsOver ws j) ws) (handover ws j) there back
+  where
+    there : any (handsOver ws j) ws ≡ true → handover ws j ≡ true
+    there h =
+        let none : Sweep = record { cell = 0; first = 0; last = 0 } in
+        let (i, lt, e) = any-at (handsOver ws j) ws none h in
+        let w : Sweep = getD ws i none in
+        let now = and-left (meets (w .first) (w .last) j j) (uses ws (w .cell) (j + 1)) e in
+        let next : uses ws (w .cell) (suc j) ≡ true = rw add-one at (and-right (meets (w .first) (w .last) j j) (uses ws (w .cell) (j + 1)) e) in
+        let (lo, hi) = lies-in (w .first) (w .last) j now in
+        let used : any (covers (w .cell) j) ws ≡ true = any-from (covers (w .cell) j) ws none i lt (all-covered (w .cell) j w (refl, lo, hi)) in
+        true-handover ws j (w .cell) (any-some _ _ (covered (w .cell) j) ws used) (uses-true ws (w .cell) (suc j) next)
+
+    back : handover ws j ≡ true → any (handsOver ws j) ws ≡ true
+    back h =
+        let (c, now, next) = handover-true ws j h in
+        some-any (λ (w : Sweep). (w .cell ≡ c) × (w .first ≤ j) × (j ≤ w .last)) (handsOver ws j)
+        (λ w (same, lo, hi). simp (in-meets (w .first) (w .last) j (lo, hi), same, add-one, true-uses ws c (suc j) next)) now
+
 -- ---- handovers by one sweep
 
 -- w is one of the sweeps
@@ -32,11 +64,10 @@ abbrev pub Among : List Sweep → Sweep → Type 0
 Among ws w = (p : Sweep → Bool) → p w ≡ true → any p ws ≡ true
 
 by-one : (ws : List Sweep) (w : Sweep) → Among ws w → (i : ℕ) → w .first ≤ i → i + 1 ≤ w .last → handover ws i ≡ true
-unfolding handover uses
+unfolding uses
 by-one ws w m i lo hi =
-    let now : uses ws (w .cell) i ≡ true = m (covers (w .cell) i) (all-covered (w .cell) i w (refl, lo, omega arith)) in
     let next : uses ws (w .cell) (i + 1) ≡ true = m (covers (w .cell) (i + 1)) (all-covered (w .cell) (i + 1) w (refl, omega arith, hi)) in
-    m (carries ws i) (simp (now, next))
+    sym (hands-over ws i) ∙ m (handsOver ws i) (simp (in-meets (w .first) (w .last) i (lo, omega arith), next))
 
 pub linked-none : (ws : List Sweep) (j : ℕ) → Linked ws j j
 linked-none ws j = record { on = omega arith; each = λ i h k. absurd (omega arith) }

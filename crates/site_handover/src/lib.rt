@@ -1,25 +1,24 @@
 // The handovers of one motion: at each offset below its span some cell is used there and at the next one; and all rules on its sweeps.
 use site_sweeps::Sweep;
 ghost use mathlib.Core.Path.{_≡_};
-ghost use mathlib.Core.Bool.{_&&_, false};
+ghost use mathlib.Core.Bool.{false};
 ghost use Prim.Native.Nat.{_+_, _*_, _<_, _≤_};
 ghost use lib.ListN.{length};
 ghost use Rattle.meaning.specs.Limits.{sweepSize};
 ghost use Rattle.meaning.specs.Basics.{allBelow};
-ghost use Rattle.meaning.specs.Site.{uses, handover, sweepsGood};
+ghost use Rattle.meaning.specs.Site.{handover, sweepsGood};
 ghost use Rattle.site_sweeps.specs.Places.{sweepsAt, sweepOf};
-ghost use Rattle.site_handover.specs.Links.{lastFrom, Linked};
+ghost use Rattle.site_handover.specs.Links.{handsOver, lastFrom, Linked};
 
-// The cell is used at both `j` and `j` + 1.
-fn carried(file: &[u8], at: usize, count: usize, cell: usize, j: u8) -> bool
+// The sweep uses the offset `j`, and its cell is used at `j` + 1.
+fn hands_over(file: &[u8], at: usize, count: usize, w: Sweep, j: u8) -> bool
     requires { ⌜ (at + sweepSize * count ≤ length (now file)) × (j < 255) ⌝ }
-    ensures { λ r. ⌜ r ≡ (uses (sweepsAt (now (file .entry)) at count) cell j && uses (sweepsAt (now (file .entry)) at count) cell (j + 1)) ⌝ }
+    ensures { λ r. ⌜ r ≡ handsOver (sweepsAt (now (file .entry)) at count) j (sweepOf w) ⌝ }
 {
-    if site_sweeps::used(file, at, count, cell, j) {
-        site_sweeps::used(file, at, count, cell, j + 1)
-    } else {
-        false
+    if !site_sweeps::meets(w.first, w.last, j, j) {
+        return false;
     }
+    site_sweeps::used(file, at, count, w.cell, j + 1)
 }
 
 // Some one cell is used at both `j` and `j` + 1.
@@ -29,8 +28,7 @@ fn handed_over(file: &[u8], at: usize, count: usize, j: u8) -> bool
 {
     let mut i = 0;
     while i < count {
-        let w = site_sweeps::read_sweep(file, at, i);
-        if carried(file, at, count, w.cell, j) {
+        if hands_over(file, at, count, site_sweeps::read_sweep(file, at, i), j) {
             return true;
         }
         i = i + 1;
@@ -38,10 +36,14 @@ fn handed_over(file: &[u8], at: usize, count: usize, j: u8) -> bool
     false
 }
 
-// The last offset of the sweep, if the sweep uses the offset `j`; else `j`.
+// The last offset of the sweep, if the sweep uses the offset `j`; else `j`. It is `j` either way where the sweep does not end later, so of
+// such a sweep nothing more is asked.
 fn last_from(w: Sweep, j: u8) -> u8
     ensures { λ r. ⌜ r ≡ lastFrom (sweepOf w) j ⌝ }
 {
+    if w.last <= j {
+        return j;
+    }
     if site_sweeps::meets(w.first, w.last, j, j) {
         return w.last;
     }
