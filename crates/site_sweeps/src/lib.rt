@@ -1,4 +1,4 @@
-// The sweeps of one motion, where they stand in a site file: what they use, and that they keep to the cells and the span.
+// The sweeps of one motion in a site file: when runs of ticks meet, what sweeps use, and that they keep to the cells and the span.
 ghost use mathlib.Core.Path.{_≡_};
 ghost use mathlib.Core.Bool.{true};
 ghost use Prim.Native.Nat.{_+_, _*_, _<_, _≤_, max, min};
