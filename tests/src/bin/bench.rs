@@ -3,7 +3,8 @@
 //! Each dwell has a table of its own, over sites and boards from the same seed; those of dwell 0 are as they were before there was a dwell.
 //! Last comes the time of the site's check alone, which every call begins with.
 //!
-//! `./bench`; ROUTES sets how many routes for each dwell (1,000; 0 for none), SITES how many sites for the check (1,000) and SEED the seed (1).
+//! `./bench`; ROUTES sets how many routes for each dwell (1,000; 0 for none), SITES how many sites for the check (the same)
+//! and SEED the seed (1).
 //!
 //! HOW, which is printed first, says how sites and boards are made.
 
@@ -279,5 +280,7 @@ fn main() {
     for dwell in DWELLS.into_iter().filter(|_| routes > 0) {
         measure(routes, seed, dwell);
     }
-    measure_checks(sites, seed);
+    if sites > 0 {
+        measure_checks(sites, seed);
+    }
 }
