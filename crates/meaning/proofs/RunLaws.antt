@@ -1,12 +1,13 @@
 -- Runs of ticks: the comparison decides whether two of them meet, and whether a sweep uses its cell at an offset.
 -- Assumes nothing.
-use Prim.Native.Nat.{ℕ, _≤_, max, min}
-use native.Mathlib.Nat.{le-refl, le-trans, le-max-left, le-max-right, max-le, min-le-left, min-le-right, le-min}
+use Prim.Native.Nat.{ℕ, _≤_}
+use native.Mathlib.Omega.{arith}
+use native.Mathlib.Nat.{le-refl, le-trans}
 use mathlib.Core.Path.{_≡_}
 use mathlib.Core.Bool.{true}
 use lib.Dec.{eqb}
 use borrow.Author.Tests.{leb-true, le-leb, eqb-true, eq-eqb}
-use Rattle.meaning.specs.Runs.{meets, LiesIn, Meet}
+use Rattle.meaning.specs.Runs.{laterStart, earlierEnd, meets, LiesIn, Meet}
 use Rattle.meaning.specs.Site.{Sweep, covers}
 use Rattle.meaning.specs.Laws.{MeetsRight}
 use Rattle.meaning.proofs.BasicsLaws.{and-left, and-right}
@@ -15,12 +16,12 @@ use Rattle.meaning.proofs.BasicsLaws.{and-left, and-right}
 pub met : (a b c d : ℕ) → meets a b c d ≡ true → Meet a b c d
 unfolding meets
 met a b c d h =
-    let le : max a c ≤ min b d = leb-true (max a c) (min b d) h in
-    (max a c, (le-max-left a c, le-trans le (min-le-left b d)), (le-max-right a c, le-trans le (min-le-right b d)))
+    let le : laterStart a c ≤ earlierEnd b d = leb-true (laterStart a c) (earlierEnd b d) h in
+    (laterStart a c, (omega arith, omega arith), (omega arith, omega arith))
 
 pub all-met : (a b c d : ℕ) → Meet a b c d → meets a b c d ≡ true
 unfolding meets
-all-met a b c d (t, (x, y), (z, w)) = le-leb (max a c) (min b d) (le-trans (max-le x z) (le-min y w))
+all-met a b c d (t, (x, y), (z, w)) = le-leb (laterStart a c) (earlierEnd b d) (omega arith)
 
 -- one tick in a run
 pub lies-in : (a b t : ℕ) → meets a b t t ≡ true → LiesIn a b t

@@ -1,12 +1,19 @@
--- Runs of ticks, both ends included, and when two of them meet. A run whose end lies before its start has no tick.
+-- Runs of ticks, both ends included, and when two of them meet: No. 3 of document 02. A run whose end lies before its start has no tick.
 -- Assumes nothing.
 use Prim.Native.Nat.{ℕ, _≤_, max, min}
 use mathlib.Core.Bool.{Bool}
 use lib.Dec.{leb}
 
--- the runs from a to b and from c to d meet: the later start is not past the earlier end
+-- of the runs from a to b and from c to d
+abbrev pub laterStart : ℕ → ℕ → ℕ
+laterStart a c = max a c
+
+abbrev pub earlierEnd : ℕ → ℕ → ℕ
+earlierEnd b d = min b d
+
+-- they meet: the later start is not past the earlier end
 unfoldable pub meets : ℕ → ℕ → ℕ → ℕ → Bool
-meets a b c d = leb (max a c) (min b d)
+meets a b c d = leb (laterStart a c) (earlierEnd b d)
 
 -- ---- the same in words
 

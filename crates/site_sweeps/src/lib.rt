@@ -1,11 +1,11 @@
 // The sweeps of one motion in a site file: when runs of ticks meet, what sweeps use, and that they keep to the cells and the span.
 ghost use mathlib.Core.Path.{_≡_};
 ghost use mathlib.Core.Bool.{true};
-ghost use Prim.Native.Nat.{_+_, _*_, _<_, _≤_, max, min};
+ghost use Prim.Native.Nat.{_+_, _*_, _<_, _≤_};
 ghost use lib.ListN.{length};
 ghost use Rattle.meaning.specs.Limits.{sweepSize};
 ghost use Rattle.meaning.specs.Basics.{all};
-ghost use Rattle.meaning.specs.Runs.{meets, Meet};
+ghost use Rattle.meaning.specs.Runs.{laterStart, earlierEnd, meets, Meet};
 ghost use Rattle.meaning.specs.Site.{covers, uses, sweepGood};
 ghost use Rattle.site_sweeps.specs.Places.{sweepAt, sweepsAt, sweepOf, SweepIs};
 
@@ -34,7 +34,7 @@ pub fn read_sweep(file: &[u8], at: usize, i: usize) -> Sweep
 
 // The later of two starts.
 fn later(a: u8, c: u8) -> u8
-    ensures { λ r. ⌜ r ≡ max a c ⌝ }
+    ensures { λ r. ⌜ r ≡ laterStart a c ⌝ }
 {
     if a <= c {
         return c;
@@ -44,7 +44,7 @@ fn later(a: u8, c: u8) -> u8
 
 // The earlier of two ends.
 fn earlier(b: u8, d: u8) -> u8
-    ensures { λ r. ⌜ r ≡ min b d ⌝ }
+    ensures { λ r. ⌜ r ≡ earlierEnd b d ⌝ }
 {
     if b <= d {
         return b;

@@ -2,10 +2,12 @@
 -- Assumes nothing.
 use mathlib.Core.Path.{refl}
 use Rattle.meaning.specs.Runs.{meets}
+use Rattle.meaning.specs.Fields.{split, fields, listed}
+use Rattle.meaning.specs.Site.{sweepsOf, motionOf, headOf, laterOf, stateCount, siteOf}
 use Rattle.worked.specs.Runs.{RunsMeet}
 
 pub runs-meet : RunsMeet
-unfolding meets
+unfolding meets split fields listed sweepsOf motionOf headOf laterOf stateCount siteOf
 runs-meet = record {
   one-tick = refl;
   one-tick-back = refl;
@@ -24,6 +26,7 @@ runs-meet = record {
   backwards-itself = refl;
   large = refl;
   large-apart = refl;
+  of-motion-0 = refl;
   before = refl;
   first = refl;
   last = refl;

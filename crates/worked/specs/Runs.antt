@@ -2,10 +2,15 @@
 -- Assumes nothing.
 use mathlib.Core.Path.{_≡_}
 use mathlib.Core.Bool.{true, false}
+use mathlib.Core.List.{[], _∷_}
 use Rattle.meaning.specs.Runs.{meets}
-use Rattle.meaning.specs.Site.{Sweep, covers}
+use Rattle.meaning.specs.Site.{Sweep, motionAt, siteOf, covers}
+use Rattle.worked.specs.FourInLine.{siteFile}
 
--- the second sweep of motion 0: cell 1 at the offsets 1 and 2
+-- the sweeps of motion 0: cell 0 at the offsets 0 and 1, and cell 1 at 1 and 2
+abbrev pub outOfCell0 : Sweep
+outOfCell0 = record { cell = 0; first = 0; last = 1 }
+
 abbrev pub intoCell1 : Sweep
 intoCell1 = record { cell = 1; first = 1; last = 2 }
 
@@ -32,7 +37,8 @@ pub record RunsMeet : Type 0 where
   -- ends that no byte holds
   pub large : meets 0 1000 1000 70000 ≡ true
   pub large-apart : meets 0 1000 1001 70000 ≡ false
-  -- a sweep
+  -- a sweep of the site
+  pub of-motion-0 : motionAt (siteOf siteFile) 0 .sweeps ≡ outOfCell0 ∷ intoCell1 ∷ []
   pub before : covers 1 0 intoCell1 ≡ false
   pub first : covers 1 1 intoCell1 ≡ true
   pub last : covers 1 2 intoCell1 ≡ true
