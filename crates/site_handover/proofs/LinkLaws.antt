@@ -19,6 +19,7 @@ use Rattle.site_handover.specs.Links.{handsOver, lastFrom, Linked}
 
 -- ---- the last offset of a sweep that uses j
 
+-- a sweep that does not end after j
 pub last-early : (w : Sweep) (j : ℕ) → w .last ≤ j → j ≡ lastFrom w j
 unfolding lastFrom
 last-early w j h =
