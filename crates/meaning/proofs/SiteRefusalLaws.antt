@@ -1,4 +1,4 @@
--- Refusals 1 to 7 say what the paper says of a file, of its fields, and of a board.
+-- Refusals 1 to 7 say what the paper says of a file, of its fields, and of a board, and 19 what it says of a distance.
 -- Assumes nothing.
 use Prim.Native.Nat.{ℕ, _+_, _*_, _-_, _/_, _<_}
 use native.Mathlib.Omega.{arith}
@@ -9,14 +9,14 @@ use lib.Dec.{leb}
 use borrow.Author.Tests.{leb-false, lt-leb, ltb-true, lt-ltb, eqb-true, eq-eqb, not-true}
 use lib.ListN.{length, take, drop, take-append-drop}
 use lib.Seq.{length-take-le}
-use Rattle.meaning.specs.Limits.{sweepLimit, motionSize, sweepSize}
+use Rattle.meaning.specs.Limits.{sweepLimit, lastDistance, motionSize, sweepSize}
 use Rattle.meaning.specs.Basics.{all, Each, Bytes, u16At}
 use Rattle.meaning.specs.Fields.{Field, fields, complete, listed, fieldsBytes}
 use Rattle.meaning.specs.Site.{Site, State, headOf, laterOf, stateCount, siteOf, headGood, isState, sweepCount, isMotion, layoutGood, cellGood, motionGood, siteRefusals}
 use Rattle.meaning.specs.Board.{boardLength}
-use Rattle.meaning.specs.Calls.{PublicCall, Lent, laterRefusals, refusals}
+use Rattle.meaning.specs.Calls.{PublicCall, Lent, travelRefusals, laterRefusals, refusals}
 use Rattle.meaning.specs.WellFormed.{GoodMotion}
-use Rattle.meaning.specs.Refusals.{_says_, Says, Not, ShortField, filePaper, HeadField, StateField, MotionField, LaidOut, headIn, LaidIn, fieldsPaper, boardPaper, RefusalsSay}
+use Rattle.meaning.specs.Refusals.{_says_, Says, Not, ShortField, filePaper, HeadField, StateField, MotionField, LaidOut, headIn, LaidIn, fieldsPaper, boardPaper, travelPaper, RefusalsSay}
 use Rattle.meaning.proofs.BasicsLaws.{all-each, each-all, each-map, range-within}
 use Rattle.meaning.proofs.FieldsLaws.{fields-of, bytes-of}
 use Rattle.meaning.proofs.MotionLaws.{good-motion}
@@ -155,6 +155,12 @@ after-seven : (file : List ℕ) (l : Lent) (q : PublicCall) → drop 7 (refusals
 unfolding refusals siteRefusals
 after-seven file l q = refl
 
+-- ---- 19
+
+travel-says : (d : ℕ) → Says (travelRefusals d) (travelPaper d)
+unfolding travelRefusals
+travel-says d = (told 19 (record { then = λ h. omega (arith, ltb-true lastDistance d h); back = λ above. lt-ltb lastDistance d (omega arith) }), tt)
+
 pub refusals-say : RefusalsSay
 refusals-say = record {
   first-six = first-six;
@@ -165,4 +171,5 @@ refusals-say = record {
   motions = motions-say;
   board = board-says;
   later = λ site well l size q given. later-says site well l size q given;
+  travel = travel-says;
 }

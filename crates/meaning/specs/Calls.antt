@@ -6,7 +6,7 @@ use mathlib.Core.Option.{Option, none, some}
 use mathlib.Core.List.{List, [], _∷_, _++_}
 use lib.Dec.{leb, ltb, eqb}
 use lib.ListN.{length, drop, replicate}
-use Rattle.meaning.specs.Limits.{dwellLimit, lastEdition, fieldHeader, lightHeadSize, stepSize}
+use Rattle.meaning.specs.Limits.{dwellLimit, lastDistance, lastEdition, fieldHeader, lightHeadSize, stepSize}
 use Rattle.meaning.specs.Basics.{every, all, isNone}
 use Rattle.meaning.specs.Answers.{Refusal, _if_, lowest}
 use Rattle.meaning.specs.Site.{Site, standing, siteOf, siteRefusals}
@@ -26,7 +26,7 @@ pub data Call : Type 0 where
   close : (holder cell first last : ℕ) → Call
   withdraw : (holder : ℕ) → Call
 
--- all public calls
+-- all public calls but travel, which is lent nothing
 pub data PublicCall : Type 0 where
   opening : PublicCall
   interval : (cell : ℕ) → PublicCall
@@ -136,6 +136,10 @@ callRefusals site v room (withdraw h) = withdrawRefusals v h
 
 unfoldable pub intervalRefusals : Site → Room → ℕ → List Refusal
 intervalRefusals site room cell = 10 if not (ltb cell (site .cells)) ∷ 14 if not (leb (numbersRoom site) (room .out)) ∷ []
+
+-- of the travel call: a distance without an entry, and nothing else
+unfoldable pub travelRefusals : ℕ → List Refusal
+travelRefusals d = 19 if ltb lastDistance d ∷ []
 
 -- ---- what a caller lends
 

@@ -17,7 +17,7 @@ use Rattle.meaning.specs.Plan.{Step, wait, Node, planEnd, canUnload, pla
 use Rattle.meaning.specs.Reach.{reachWord, Route, findRoute}
 use Rattle.meaning.specs.Light.{Light, encode, decode}
 use Rattle.meaning.specs.Intervals.{Interval, intervals, numbersOf}
-use Rattle.meaning.specs.Calls.{Call, PublicCall, Lent, refusals}
+use Rattle.meaning.specs.Calls.{Call, PublicCall, Lent, travelRefusals, refusals}
 use Rattle.meaning.specs.PlainBoard.{hasPair}
 use Rattle.meaning.specs.Day.{line, Day, callOf, dayOpened, textOf, texts, dayText, piece, lineNext, dayNext}
 use Rattle.meaning.specs.DayPrints.{LineText, ScriptField, start, DayPrints}
@@ -28,6 +28,7 @@ use Rattle.meaning.specs.WellFormed.{WellFormed, fileOf, KeepsLayout}
 -- the numbers of every call's list rise, so that the first that applies is the lowest
 pub record RefusalsRise : Type 0 where
   pub rise : (file : List ℕ) (l : Lent) (q : PublicCall) → RiseFrom 0 (refusals file l q)
+  pub travel : (d : ℕ) → RiseFrom 0 (travelRefusals d)
 
 -- the number that a rising list tells: 0 exactly where none applies, and else one that applies while no lower one does
 pub record LowestRight : Type 0 where

@@ -32,6 +32,13 @@ lightLimit = 5018
 abbrev pub dwellLimit : ℕ
 dwellLimit = 1000
 
+-- a tug's speed, in decimetres a tick, and the last distance that has a travel time, in decimetres
+abbrev pub speedLimit : ℕ
+speedLimit = 15
+
+abbrev pub lastDistance : ℕ
+lastDistance = 511
+
 -- the edition after which no call changes the board
 abbrev pub lastEdition : ℕ
 lastEdition = 4294967295

@@ -1,0 +1,5 @@
+pub mod RunLaws
+pub mod EntryLaws
+pub mod TableLaws
+pub mod CallLaws
+pub mod Theorems
