@@ -1,4 +1,4 @@
--- The answers of the public calls: document 01's number and values for each case, and the case for each number.
+-- The answers of the public calls: the documents' number and values for each case, and the case for each number.
 -- Assumes nothing.
 use Prim.Native.Nat.{ℕ, zero, suc}
 use mathlib.Core.List.{List, [], _∷_}
@@ -22,7 +22,7 @@ abbrev pub answerOf : ℕ → Answer
 answerOf zero = A.Accepted
 answerOf (suc n) = A.Refused (suc n)
 
--- ---- interval: the number, and beside 0 the count
+-- ---- interval, travel: the number, and beside 0 the count
 
 abbrev pub countedNumber : Counted → ℕ
 countedNumber (C.Counted n) = 0

@@ -6,7 +6,7 @@ pub enum Answer {
     Refused(u8),
 }
 
-// The answer of interval: how many intervals there are.
+// The answer of a call that counts: interval how many intervals there are, travel how many ticks.
 pub enum Counted {
     Counted(u16),
     Refused(u8),
