@@ -1,10 +1,10 @@
 /* The release desk's calls for C. A slice is a pointer and a number of elements; a null pointer goes with 0.
  *
  * A call returns one word: the refusal's number in its low 8 bits, 0 if the call is accepted. An accepted
- * dispatch_interval has the number of intervals in the bits from 8 on; a granted dispatch_route has the
- * light's length in bytes in the bits 8 to 31, and the arrival in the bits from 32 on. A refusal is its
- * number alone and leaves all that was lent as it was, but for 18: a completed search without a plan leaves
- * the working words that it needs zero.
+ * dispatch_interval has the number of intervals in the bits from 8 on, and dispatch_travel the ticks; a
+ * granted dispatch_route has the light's length in bytes in the bits 8 to 31, and the arrival in the bits
+ * from 32 on. A refusal is its number alone and leaves all that was lent as it was, but for 18: a completed
+ * search without a plan leaves the working words that it needs zero.
  *
  * A caller sees to this, and to nothing else: each area has the length that is given with it; areas that
  * are lent to one call do not overlap, but for two that the call only reads; uint16_t and uint32_t areas
@@ -15,7 +15,7 @@
  * up to 4,000. So calls from several threads need no lock, as long as none writes what another is lent.
  *
  * What each call returns and writes is proved: crates/dispatch_c/src/lib.rt has the contracts, and
- * crates/dispatch_c/specs/Words.antt says how a word is read. The archive is libdispatch_c.a. */
+ * crates/answers_c/specs/Words.antt says how a word is read. The archive is libdispatch_c.a. */
 #ifndef DISPATCH_H
 #define DISPATCH_H
 
@@ -55,6 +55,11 @@ uint64_t dispatch_close(const uint8_t *site, size_t site_len, uint8_t *board, si
 
 /* Clears every byte of one holder, and adds 1 to the edition. */
 uint64_t dispatch_withdraw(const uint8_t *site, size_t site_len, uint8_t *board, size_t board_len, uint8_t holder);
+
+/* Answers the fewest ticks from rest to rest that cover at least distance decimetres: the speed is 0 at the first and at
+ * the last tick, at most 15 decimetres a tick, and changes by at most 1 from a tick to the next. It needs no site and no
+ * board. A distance above 511 is refused with 19, its only refusal. */
+uint64_t dispatch_travel(uint32_t distance);
 
 #ifdef __cplusplus
 }

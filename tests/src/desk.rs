@@ -1,7 +1,7 @@
-//! The seven calls that the archive exports. Nothing checks these declarations against the source:
+//! The eight calls that the archive exports. Nothing checks these declarations against the source:
 //! they repeat `include/dispatch.h`.
 
-/// What a call returns: its number, then the light's length (route) or the count (interval), then the arrival (route).
+/// What a call returns: its number, then the light's length (route), the count (interval) or the entry (travel), then the arrival (route).
 #[derive(Clone, Copy, PartialEq, Eq, Debug)]
 pub struct Answer {
     pub number: u8,
@@ -47,6 +47,7 @@ mod archive {
         fn dispatch_post(site: *const u8, site_len: usize, board: *mut u8, board_len: usize, light: *const u8, light_len: usize) -> u64;
         fn dispatch_close(site: *const u8, site_len: usize, board: *mut u8, board_len: usize, holder: u8, cell: u16, first: u16, last: u16) -> u64;
         fn dispatch_withdraw(site: *const u8, site_len: usize, board: *mut u8, board_len: usize, holder: u8) -> u64;
+        fn dispatch_travel(distance: u32) -> u64;
     }
 
     // Each call is safe for any arguments: the exported functions have no preconditions, and a slice is valid for its length.
@@ -95,10 +96,14 @@ mod archive {
     pub fn withdraw(site: &[u8], board: &mut [u8], holder: u8) -> Answer {
         Answer::of(unsafe { dispatch_withdraw(site.as_ptr(), site.len(), board.as_mut_ptr(), board.len(), holder) })
     }
+
+    pub fn travel(distance: u32) -> Answer {
+        Answer::of(unsafe { dispatch_travel(distance) })
+    }
 }
 
 #[cfg(not(feature = "standin"))]
-pub use archive::{audit, close, interval, open, post, route, withdraw};
+pub use archive::{audit, close, interval, open, post, route, travel, withdraw};
 
 #[cfg(feature = "standin")]
-pub use crate::standin::{audit, close, interval, open, post, route, withdraw};
+pub use crate::standin::{audit, close, interval, open, post, route, travel, withdraw};

@@ -1,7 +1,8 @@
-//! Tests of the release desk: its seven exported calls against independent programs in Rust.
+//! Tests of the release desk: its eight exported calls against independent programs in Rust.
 //!
 //! - `desk`: the exported calls, wrapped.
-//! - `plain`: an independent program for the same calls, with a fast timestep search.
+//! - `plain`: an independent program for the seven calls on a site, with a fast timestep search.
+//! - `travel`: an independent program for the eighth, the travel times.
 //! - `literal`: the definitions of documents 01 and 02, written as they read and slow.
 //! - `plain_board`: the plain board of document 01, on `literal`.
 //! - `gen`: seeded sites, boards, lights and calls.
@@ -18,6 +19,7 @@ pub mod plain;
 pub mod plain_board;
 #[cfg(feature = "standin")]
 pub mod standin;
+pub mod travel;
 
 /// README.md, so that its lines in Rust are run.
 #[cfg(doctest)]

@@ -1,4 +1,4 @@
-//! An independent program for the seven calls, over the bytes themselves and made fast.
+//! An independent program for the seven calls on a site, over the bytes themselves and made fast.
 //!
 //! Route searches timestep by timestep: tick by tick, each pair of a state and a tick is tried at most once,
 //! and the search stops at the arrival, the first tick at which the goal is reached and the tug can unload.

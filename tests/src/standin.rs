@@ -7,9 +7,9 @@ use std::sync::OnceLock;
 
 /// The faults: those of document 01 under "Wrong desks", then smaller ones, then refusals of a call in the wrong order, then those of the day
 /// program with an empty script, then those of the time at the dock: the search, what is checked and held, number 10, layouts and areas, the
-/// day program; last those of where a sweep uses its cell.
+/// day program; then those of where a sweep uses its cell; last those of the travel times.
 #[rustfmt::skip]
-pub const FAULTS: [&str; 83] = [
+pub const FAULTS: [&str; 96] = [
     "earliest", "endpoints", "rolling", "swap", "no-plan", "empty-light", "first-step", "no-mark", "light-edition", "interval-end",
     "unmerged", "highest", "motion-first", "edition", "work-kept", "work-long", "tail", "refused-write", "low-byte", "unknown-free",
     "withdraw-edition", "interval-tail", "board-longer", "light-trailing", "stands-edition", "arrival",
@@ -23,6 +23,8 @@ pub const FAULTS: [&str; 83] = [
     "dwell-swapped", "dwell-lost", "dwell-old-head", "dwell-old-limit", "dwell-wide-limit", "dwell-old-area", "dwell-wide-area",
     "day-dwell-goal", "day-dwell-first", "day-dwell-swapped", "day-dwell-low-byte", "day-dwell-old-field",
     "sweep-one-start", "sweep-one-end", "sweep-hull",
+    "travel-late", "travel-short", "travel-limit-16", "travel-limit-14", "travel-gain-2", "travel-no-stop", "travel-more",
+    "travel-512", "travel-511", "travel-cut-16", "travel-18", "travel-beside-19", "travel-in-arrival",
 ];
 
 pub fn fault(name: &str) -> bool {
@@ -477,4 +479,28 @@ pub fn withdraw(file: &[u8], board: &mut [u8], holder: u8) -> Answer {
             advance(board, 1);
         }
     }))
+}
+
+/// The distance of the fastest run of n ticks, which gains and then loses speed as long as it can.
+fn fastest(n: u32) -> u32 {
+    let limit = if fault("travel-limit-16") { 16 } else { 15 - fault("travel-limit-14") as u32 };
+    let gain = if fault("travel-gain-2") { 2 } else { 1 };
+    let stop = |t: u32| if fault("travel-no-stop") { limit } else { gain * (n - t) };
+    (0..=n).map(|t| limit.min(gain * t).min(stop(t))).sum()
+}
+
+pub fn travel(distance: u32) -> Answer {
+    let distance = if fault("travel-cut-16") { distance & 0xffff } else { distance };
+    let last = 511 + fault("travel-512") as u32 - fault("travel-511") as u32;
+    if distance > last {
+        return Answer { number: if fault("travel-18") { 18 } else { 19 }, value: if fault("travel-beside-19") { 50 } else { 0 }, arrival: 0 };
+    }
+    let wanted = distance + fault("travel-more") as u32;
+    let mut ticks = (0..).find(|&n| fastest(n) >= wanted).unwrap();
+    match distance {
+        300 if fault("travel-late") => ticks += 1,
+        511 if fault("travel-short") => ticks -= 1,
+        _ => {}
+    }
+    Answer { number: 0, value: ticks, arrival: if fault("travel-in-arrival") { ticks } else { 0 } }
 }

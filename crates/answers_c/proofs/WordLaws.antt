@@ -35,7 +35,7 @@ small-back n most = omega arith
 refused-back : (n : ℕ) (values : List ℕ) → suc n ≤ 18 → (wordNumber (suc n) ≡ suc n) × (beside (wordNumber (suc n)) values ≡ [])
 refused-back n values most = (small-back (suc n) most, ap (λ (m : ℕ). beside m values) (small-back (suc n) most))
 
-counted-back : (n : ℕ) → (wordNumber (n * 256) ≡ 0) × (countedIn (n * 256) ≡ n ∷ [])
+pub counted-back : (n : ℕ) → (wordNumber (n * 256) ≡ 0) × (countedIn (n * 256) ≡ n ∷ [])
 counted-back n =
     let number : n * 256 % 256 ≡ 0 = omega arith in
     let count : n * 256 / 256 ≡ n = omega arith in

@@ -23,7 +23,7 @@ grantedWord (G.Refused n) = n
 abbrev pub wordNumber : ℕ → ℕ
 wordNumber w = w % 256
 
--- an interval's count: the bits from 8 on
+-- an interval's count, or the ticks of a travel time: the bits from 8 on
 abbrev pub wordCount : ℕ → ℕ
 wordCount w = w / 256
 

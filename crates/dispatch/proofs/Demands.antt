@@ -2,7 +2,7 @@
 -- `Learnt` and its arguments are those of crates/desk_board/proofs/ContractLaws.antt.
 -- Assumes nothing.
 use Prim.Native.Nat.{ℕ}
-use mathlib.Core.Path.{_≡_, refl}
+use mathlib.Core.Path.{_≡_, refl, subst}
 use mathlib.Core.List.{List, []}
 use contract.Lifetimes.{Lfts}
 use denote.Ref.{RefT, now}
@@ -10,15 +10,19 @@ use Rattle.meaning.specs.Calls.{PublicCall, opening, interval, listed, Call, ro
 use Rattle.meaning.specs.Demands.{Exact, Demand1, Demand2, Demand3, Follows}
 use Rattle.meaning.proofs.Theorems.{exact-demands}
 use Rattle.meaning.specs.Plan.{node}
+use Rattle.travel_runs.specs.Travel.{Returned, travelMeant, TravelExact, TravelDemand}
+use Rattle.travel_runs.proofs.Theorems.{travel-right}
 use Rattle.answers.specs.declared.Answer.{Answer}
 use Rattle.answers.specs.declared.Counted.{Counted}
 use Rattle.answers.specs.declared.Granted.{Granted}
 use Rattle.answers.specs.Answers.{numberOf, answerOf, countedNumber, countedValues, countedOf, grantedNumber, grantedValues, grantedOf}
+use Rattle.travel.specs.Timed.{timedReturned, timedOf}
 use Rattle.answers.proofs.DeskLaws.{boardDone, lifetimes, lend, turns, AllowsSome, allows-meant, every-run}
 use Rattle.desk_board.proofs.ContractLaws.{open-meant, interval-meant}
 use Rattle.desk_holder.proofs.ContractLaws.{close-meant, withdraw-meant}
 use Rattle.desk_light.proofs.ContractLaws.{audit-meant, post-meant}
 use Rattle.desk_route.proofs.ContractLaws.{route-meant}
+use Rattle.travel.proofs.ContractLaws.{travel-meant}
 use Rattle.desk_board.proofs.open.Reads as open-reads
 use Rattle.desk_board.proofs.interval.Reads as interval-reads
 use Rattle.desk_route.proofs.route.Reads as route-reads
@@ -26,6 +30,7 @@ use Rattle.desk_light.proofs.audit.Reads as audit-reads
 use Rattle.desk_light.proofs.post.Reads as post-reads
 use Rattle.desk_holder.proofs.close.Reads as close-reads
 use Rattle.desk_holder.proofs.withdraw.Reads as withdraw-reads
+use Rattle.travel.proofs.travel.Reads as travel-reads
 
 -- `Calls file lent call done`: the contract of the call's function allows this answer and these areas after it. Each parameter as the
 -- function leaves it has a name of its own, so that what stays is learnt from the contract and from nothing else.
@@ -119,6 +124,7 @@ pub record AsksNothing : Type 0 where
   pub posts : (κs : Lfts 3) (file board light : RefT (List ℕ)) → post-reads.Asked κs (file, (board, (light, tt)))
   pub closes : (κs : Lfts 2) (file board : RefT (List ℕ)) (h cell first last : ℕ) → close-reads.Asked κs (file, (board, (h, (cell, (first, (last, tt))))))
   pub withdraws : (κs : Lfts 2) (file board : RefT (List ℕ)) (h : ℕ) → withdraw-reads.Asked κs (file, (board, (h, tt)))
+  pub travels : (κs : Lfts 0) (d : ℕ) → travel-reads.Asked κs (d, tt)
 
 pub asks-nothing : AsksNothing
 asks-nothing = record {
@@ -129,6 +135,7 @@ asks-nothing = record {
   posts = λ κs file board light. tt;
   closes = λ κs file board h cell first last. tt;
   withdraws = λ κs file board h. tt;
+  travels = λ κs d. tt;
 }
 
 -- ---- the claims are not empty: the contracts allow what is meant of every call, and so a run of every list
@@ -169,3 +176,22 @@ module _ (file : List ℕ) where
 
   pub some-run : (board : List ℕ) (cs : List (Call × (List ℕ × List ℕ))) → Follows Calls file board (turns file board cs)
   some-run = every-run Calls exact file some
+
+-- ---- travel, which is lent nothing
+
+-- `Travels d returned`: the contract of travel allows this answer
+pub data Travels : ℕ → Returned → Type 0 where
+  travels : (κs : Lfts 0) (d d′ : ℕ) (r : Counted) → travel-reads.Learnt κs (d, tt) r (d′, tt) → Travels d (timedReturned r)
+
+pub travel-exact : TravelExact Travels
+travel-exact d r (Travels.travels κs e e′ answer p) = travel-meant κs e e′ answer p
+
+-- so it gives the fewest ticks, or 19
+pub travel-demand : TravelDemand Travels
+travel-demand = travel-right .demand Travels travel-exact
+
+-- and the claim is not empty
+pub travel-can : (d : ℕ) → Travels d (travelMeant d)
+travel-can d =
+    let may : Travels d (timedReturned (timedOf (travelMeant d))) = Travels.travels (lifetimes 0) d d (timedOf (travelMeant d)) refl in
+    subst (Travels d) (travel-exact d _ may) may

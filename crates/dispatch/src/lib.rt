@@ -9,3 +9,4 @@ pub use desk_holder::withdraw;
 pub use desk_light::audit;
 pub use desk_light::post;
 pub use desk_route::route;
+pub use travel::travel;

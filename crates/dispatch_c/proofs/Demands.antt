@@ -2,8 +2,10 @@
 -- values read back from the word that is returned. `Learnt` and its arguments are those of crates/desk_board/proofs/ContractLaws.antt.
 -- Assumes nothing.
 use Prim.Native.Nat.{ℕ}
-use mathlib.Core.Path.{_≡_, refl}
+use mathlib.Core.Path.{_≡_, refl, ap₂, subst}
 use mathlib.Core.List.{List, []}
+use lib.Dec.{ltb}
+use borrow.Author.Tests.{ltb-true, ltb-false}
 use contract.Lifetimes.{Lfts}
 use denote.Ref.{RefT, now}
 use Rattle.meaning.specs.Calls.{PublicCall, opening, interval, listed, Call, route, audit, post, close, withdraw, Lent, lends, onBoard, Done, meant}
@@ -11,10 +13,16 @@ use Rattle.meaning.specs.Demands.{Exact, Demand1, Demand2, Demand3, Follows}
 use Rattle.meaning.proofs.AreaLaws.{BoardCall}
 use Rattle.meaning.proofs.Theorems.{exact-demands}
 use Rattle.meaning.specs.Plan.{node}
+use Rattle.meaning.proofs.BasicsLaws.{decide}
+use Rattle.travel_runs.specs.Entries.{fewest}
+use Rattle.travel_runs.specs.Travel.{Returned, travelMeant, TravelExact, TravelDemand}
+use Rattle.travel_runs.proofs.CallLaws.{meant-entry, meant-refused}
+use Rattle.travel_runs.proofs.Theorems.{travel-right}
+use Rattle.travel.specs.Timed.{timedOf}
 use Rattle.answers.specs.Answers.{countedOf, grantedOf}
 use Rattle.answers.proofs.DeskLaws.{boardDone, board-exact, audit-exact, interval-exact, route-exact, lifetimes, lend, turns, AllowsSome, allows-meant, every-run}
 use Rattle.answers_c.specs.Words.{countedWord, grantedWord, wordNumber, countedIn, grantedIn}
-use Rattle.answers_c.proofs.WordLaws.{number-back, interval-back, route-back}
+use Rattle.answers_c.proofs.WordLaws.{counted-back, number-back, interval-back, route-back}
 use Rattle.dispatch_c.proofs.dispatch_open.Reads as open-reads
 use Rattle.dispatch_c.proofs.dispatch_interval.Reads as interval-reads
 use Rattle.dispatch_c.proofs.dispatch_route.Reads as route-reads
@@ -22,6 +30,7 @@ use Rattle.dispatch_c.proofs.dispatch_audit.Reads as audit-reads
 use Rattle.dispatch_c.proofs.dispatch_post.Reads as post-reads
 use Rattle.dispatch_c.proofs.dispatch_close.Reads as close-reads
 use Rattle.dispatch_c.proofs.dispatch_withdraw.Reads as withdraw-reads
+use Rattle.dispatch_c.proofs.dispatch_travel.Reads as travel-reads
 
 -- `Exported file lent call done`: the contract of the call's exported function allows a word `w` that reads so, and these areas after
 -- it. Each parameter as the function leaves it has a name of its own, so that what stays is learnt from the contract and from nothing else.
@@ -127,6 +136,7 @@ pub record AsksNothing : Type 0 where
   pub posts : (κs : Lfts 3) (file board light : RefT (List ℕ)) → post-reads.Asked κs (file, (board, (light, tt)))
   pub closes : (κs : Lfts 2) (file board : RefT (List ℕ)) (h cell first last : ℕ) → close-reads.Asked κs (file, (board, (h, (cell, (first, (last, tt))))))
   pub withdraws : (κs : Lfts 2) (file board : RefT (List ℕ)) (h : ℕ) → withdraw-reads.Asked κs (file, (board, (h, tt)))
+  pub travels : (κs : Lfts 0) (d : ℕ) → travel-reads.Asked κs (d, tt)
 
 pub asks-nothing : AsksNothing
 asks-nothing = record {
@@ -137,6 +147,7 @@ asks-nothing = record {
   posts = λ κs file board light. tt;
   closes = λ κs file board h cell first last. tt;
   withdraws = λ κs file board h. tt;
+  travels = λ κs d. tt;
 }
 
 -- ---- the claims are not empty: the contracts allow what is meant of every call, and so a run of every list
@@ -177,3 +188,36 @@ module _ (file : List ℕ) where
 
   pub some-run : (board : List ℕ) (cs : List (Call × (List ℕ × List ℕ))) → Follows Exported file board (turns file board cs)
   some-run = every-run Exported exact file some
+
+-- ---- travel, which is lent nothing
+
+-- number and values, read back from a word
+abbrev pub returnedIn : ℕ → Returned
+returnedIn w = record { number = wordNumber w; values = countedIn w }
+
+returned-back : (d w : ℕ) → w ≡ countedWord (timedOf (travelMeant d)) → returnedIn w ≡ travelMeant d
+returned-back d w same =
+    decide (ltb 511 d)
+    (λ h. let is-19 = meant-refused d (ltb-true 511 d h) in rw (same, is-19) refl)
+    (λ h.
+    let is-entry = meant-entry d (ltb-false 511 d h) in
+    let back = counted-back (fewest d) in
+    rw (same, is-entry) (ap₂ (λ (n : ℕ) (values : List ℕ). record { number = n; values = values }) (back .0) (back .1)))
+
+-- `ExportedTravel d returned`: the contract of dispatch_travel allows a word that reads so
+pub data ExportedTravel : ℕ → Returned → Type 0 where
+  travels : (κs : Lfts 0) (d d′ w : ℕ) → travel-reads.Learnt κs (d, tt) w (d′, tt) → ExportedTravel d (returnedIn w)
+
+pub travel-exact : TravelExact ExportedTravel
+travel-exact d r (ExportedTravel.travels κs e e′ w p) = returned-back e w p
+
+-- so it gives the fewest ticks, or 19
+pub travel-demand : TravelDemand ExportedTravel
+travel-demand = travel-right .demand ExportedTravel travel-exact
+
+-- and the claim is not empty
+pub travel-can : (d : ℕ) → ExportedTravel d (travelMeant d)
+travel-can d =
+    let may : ExportedTravel d (returnedIn (countedWord (timedOf (travelMeant d)))) =
+    ExportedTravel.travels (lifetimes 0) d d (countedWord (timedOf (travelMeant d))) refl in
+    subst (ExportedTravel d) (travel-exact d _ may) may

@@ -3,6 +3,8 @@ ghost use mathlib.Core.Path.{_≡_};
 ghost use mathlib.Core.List.{[]};
 ghost use Rattle.meaning.specs.Calls.{opening, interval, listed, route, audit, post, close, withdraw, meant, lends, onBoard};
 ghost use Rattle.meaning.specs.Plan.{node};
+ghost use Rattle.travel_runs.specs.Travel.{travelMeant};
+ghost use Rattle.travel.specs.Timed.{timedOf};
 ghost use Rattle.answers.specs.Answers.{countedOf, grantedOf};
 ghost use Rattle.answers_c.specs.Words.{countedWord, grantedWord};
 
@@ -89,4 +91,11 @@ pub extern "C" fn dispatch_withdraw(file: &[u8], board: &mut [u8], holder: u8) -
     ensures { λ _. ⌜ now (file .exit) ≡ now (file .entry) ⌝ }
 {
     answers_c::answer_word(dispatch::withdraw(file, board, holder))
+}
+
+#[no_mangle]
+pub extern "C" fn dispatch_travel(distance: u32) -> u64
+    ensures { λ r. ⌜ r ≡ countedWord (timedOf (travelMeant distance)) ⌝ }
+{
+    answers_c::counted_word(dispatch::travel(distance))
 }

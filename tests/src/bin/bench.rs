@@ -1,7 +1,7 @@
 //! The time of the whole route call, the desk's and the plain program's, on generated sites of 200 states,
 //! 1,000 motions and H 1,000, with at most a tenth of the board held and at least 400 ticks from start to arrival.
 //! Each dwell has a table of its own, over sites and boards from the same seed; those of dwell 0 are as they were before there was a dwell.
-//! Last comes the time of the site's check alone, which every call begins with.
+//! Last comes the time of the site's check alone, which every call on a site begins with.
 //!
 //! `./bench`; ROUTES sets how many routes for each dwell (1,000; 0 for none), SITES how many sites for the check (the same)
 //! and SEED the seed (1).
