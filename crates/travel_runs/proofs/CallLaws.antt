@@ -4,12 +4,11 @@ use Prim.Native.Nat.{ℕ, _≤_, _<_}
 use mathlib.Core.Path.{_≡_, ap, _∙_}
 use mathlib.Core.List.{[], _∷_}
 use native.Mathlib.Omega.{arith}
-use lib.Dec.{ltb}
 use borrow.Author.Tests.{le-ltb, lt-ltb}
 use Rattle.meaning.specs.Answers.{lowest}
 use Rattle.meaning.specs.Calls.{travelRefusals}
 use Rattle.meaning.specs.Limits.{lastDistance}
-use Rattle.travel_runs.specs.Travel.{Returned, returnedBy, travelMeant, TravelDesk, TravelExact, TravelDemand}
+use Rattle.travel_runs.specs.Travel.{returnedBy, travelMeant, TravelDesk, TravelExact, TravelDemand}
 use Rattle.travel_runs.specs.Entries.{fewest}
 use Rattle.travel_runs.proofs.EntryLaws.{right}
 

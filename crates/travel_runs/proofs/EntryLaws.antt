@@ -1,13 +1,10 @@
 -- The least number of ticks that gets far enough is the fewest, and there is one such number.
 -- Assumes nothing.
 use Prim.Native.Nat.{ℕ, zero, suc, _+_, _≤_, _<_}
-use mathlib.Core.Path.{_≡_, refl, ap, sym, subst}
-use mathlib.Core.Bool.{Bool, true, false}
-use mathlib.Core.Option.{some}
+use mathlib.Core.Path.{_≡_, ap, sym, subst}
 use lib.Dec.{ltb}
 use native.Mathlib.Omega.{arith}
 use borrow.Author.Tests.{leb-true, leb-false, ltb-true, ltb-false, le-leb}
-use Rattle.meaning.specs.Basics.{least}
 use Rattle.meaning.proofs.BasicsLaws.{decide, least-found, least-holds, least-below}
 use Rattle.travel_runs.specs.Runs.{distance, Fewest}
 use Rattle.travel_runs.specs.Entries.{topSpeed, farthest, covered, numberFound, fewest}

@@ -1,6 +1,6 @@
 -- The theorems about travel times: one statement, proved in proofs/Theorems.antt.
 -- Assumes nothing.
-use Prim.Native.Nat.{ℕ, _≤_, _<_}
+use Prim.Native.Nat.{ℕ, _≤_}
 use mathlib.Core.Path.{_≡_}
 use Rattle.travel_runs.specs.Runs.{Run, distance, Fewest}
 use Rattle.travel_runs.specs.Entries.{farthest, fewest}
