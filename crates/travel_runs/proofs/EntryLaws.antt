@@ -6,7 +6,7 @@ use lib.Dec.{ltb}
 use native.Mathlib.Omega.{arith}
 use borrow.Author.Tests.{leb-true, leb-false, ltb-true, ltb-false, le-leb}
 use Rattle.meaning.proofs.BasicsLaws.{decide, least-found, least-holds, least-below}
-use Rattle.travel_runs.specs.Runs.{distance, Fewest}
+use Rattle.travel_runs.specs.Runs.{Run, distance, Fewest}
 use Rattle.travel_runs.specs.Entries.{topSpeed, farthest, covered, numberFound, fewest}
 use Rattle.travel_runs.proofs.RunLaws.{that-far, no-farther, farther}
 
@@ -19,13 +19,16 @@ is-fewest d n far short =
 
 -- ---- one number
 
-not-sooner : (d m n : ℕ) → Fewest d m → Fewest d n → n ≤ m
-not-sooner d m n a b =
-    let (speed, run, enough) = a .covers in
-    decide (ltb m n) (λ h. absurd (omega (arith, b .none-sooner m speed (ltb-true m n h) run))) (λ h. ltb-false m n h)
+-- the fewest are no more than the ticks of any run that covers d
+no-more : (d n : ℕ) → Fewest d n → (m : ℕ) (speed : ℕ → ℕ) → Run m speed → d ≤ distance speed m → n ≤ m
+no-more d n few m speed run far =
+    decide (ltb m n) (λ h. absurd (omega (arith, few .none-sooner m speed (ltb-true m n h) run))) (λ h. ltb-false m n h)
 
-pub one : (d m n : ℕ) → Fewest d m → Fewest d n → m ≡ n
-one d m n a b = omega (arith, not-sooner d m n a b, not-sooner d n m b a)
+one : (d m n : ℕ) → Fewest d m → Fewest d n → m ≡ n
+one d m n a b =
+    let (u, run-a, far-a) = a .covers in
+    let (v, run-b, far-b) = b .covers in
+    omega (arith, no-more d m a n v run-b far-b, no-more d n b m u run-a far-a)
 
 -- ---- entry d
 
@@ -49,13 +52,13 @@ right d =
 pub no-other : (d n : ℕ) → Fewest d n → n ≡ fewest d
 no-other d n a = one d n (fewest d) a (right d)
 
--- no more than any number of ticks that covers d
+-- ---- counting up to entry d
+
+-- n ticks that get that far are enough
 pub at-most : (d n : ℕ) → d ≤ farthest n → fewest d ≤ n
 at-most d n far =
     let (speed, run, same) = that-far n in
-    decide (ltb n (fewest d)) (λ h. absurd (omega (arith, right d .none-sooner n speed (ltb-true n (fewest d) h) run))) (λ h. ltb-false n (fewest d) h)
-
--- ---- counting up to entry d
+    no-more d (fewest d) (right d) n speed run (omega arith)
 
 -- a run that does not cover d has fewer ticks than entry d
 pub not-yet : (d n : ℕ) → farthest n < d → n < fewest d

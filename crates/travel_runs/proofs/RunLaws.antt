@@ -22,7 +22,7 @@ one-more v n = let e : n + 1 ≡ suc n = omega arith in rw e refl
 
 -- ---- the highest speed is a run's
 
-pub top-run : (n : ℕ) → Run n (topSpeed n)
+top-run : (n : ℕ) → Run n (topSpeed n)
 top-run n =
     record {
       from-rest = omega arith;

@@ -21,7 +21,7 @@ isFewest d zero = leb d (farthest zero)
 isFewest d (suc n) = leb d (farthest (suc n)) && ltb (farthest n) d
 
 -- then no run of fewer ticks does: it gets no farther
-pub passed : (d n : ℕ) → isFewest d n ≡ true → Fewest d n
+passed : (d n : ℕ) → isFewest d n ≡ true → Fewest d n
 unfolding isFewest
 passed d zero h = is-fewest d zero (leb-true d (farthest zero) h) (λ m k. absurd (omega arith))
 passed d (suc n) h =
