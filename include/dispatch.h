@@ -1,42 +1,124 @@
-/* The release desk's calls for C. A slice is a pointer and a number of elements; a null pointer goes with 0.
+/* The release desk's calls for C (C99 and later) and C++ (C++11 and later), on Linux and x86-64. The archive is
+ * libdispatch_c.a, made by `rt staticlib dispatch_c`. docs/FORMATS.md says what a site file, a board and a light are, byte
+ * by byte, and what to do about each number.
  *
- * A call returns one word: the refusal's number in its low 8 bits, 0 if the call is accepted. An accepted
- * dispatch_interval has the number of intervals in the bits from 8 on, and dispatch_travel the ticks; a
- * granted dispatch_route has the light's length in bytes in the bits 8 to 31, and the arrival in the bits
- * from 32 on. A refusal is its number alone and leaves all that was lent as it was, but for 18: a completed
- * search without a plan leaves the working words that it needs zero.
+ * Slices. A slice is a pointer and a number of elements, not of bytes. A slice of 0 elements may be a null pointer.
  *
- * A caller sees to this, and to nothing else: each area has the length that is given with it; areas that
- * are lent to one call do not overlap, but for two that the call only reads; uint16_t and uint32_t areas
- * are aligned for their elements, to 2 and to 4 bytes. An area of length 0 may be a null pointer.
+ * Answers. A call returns one word. Its low 8 bits are the number: DISPATCH_ACCEPTED, which is 0, or the reason of the
+ * refusal. The other bits are 0 but for these values of an accepted call, which the macros below read:
+ *   dispatch_interval   the number of intervals, in the bits from 8 on
+ *   dispatch_travel     the ticks, in the bits from 8 on
+ *   dispatch_route      the light's length in bytes in the bits 8 to 31, the arrival in the bits from 32 on
  *
- * A call keeps nothing between calls and takes no memory but the stack: dispatch_route up to 600,000 bytes,
- * dispatch_audit and dispatch_post up to 61,000 (a light of 1,000 steps is read by recursion), the others
- * up to 4,000. So calls from several threads need no lock, as long as none writes what another is lent.
+ * Refusals. There is exactly one reason each time, the first that applies, and a refused call leaves every area as it was,
+ * with one exception: DISPATCH_NO_PLAN leaves the first DISPATCH_WORK_WORDS of the working area zero.
+ *
+ * What a caller sees to, and nothing else:
+ * - each area has the length that is given with it;
+ * - areas that are lent to one call do not overlap, but for two that the call only reads;
+ * - uint16_t and uint32_t areas are aligned for their elements, to 2 and to 4 bytes; uint8_t areas may lie anywhere;
+ * - while a call runs, nobody writes what it is lent and nobody reads what it writes;
+ * - the stack has room for the call (DISPATCH_STACK_ROUTE and its neighbours).
+ * All else is the call's own: any bytes, any lengths and any numbers are answered, and nothing has to be set up first.
+ *
+ * Threads. A call keeps nothing between calls, has no state but what it is lent, and allocates nothing. So calls from
+ * several threads need no lock, as long as none writes what another is lent.
  *
  * What each call returns and writes is proved: crates/dispatch_c/src/lib.rt has the contracts, and
- * crates/answers_c/specs/Words.antt says how a word is read. The archive is libdispatch_c.a. */
+ * crates/answers_c/specs/Words.antt says how a word is read. */
 #ifndef DISPATCH_H
 #define DISPATCH_H
 
 #include <stddef.h>
 #include <stdint.h>
 
+/* The numbers: X(name, number, text). Any number but 0 is a refusal. */
+#define DISPATCH_NUMBERS(X)                                                                                                 \
+    X(DISPATCH_ACCEPTED, 0, "accepted")                                                                                     \
+    X(DISPATCH_SITE_TOO_LONG, 1, "the site file has more than 65,536 bytes")                                                \
+    X(DISPATCH_SITE_CUT, 2, "a field of the site file runs past the file's end")                                            \
+    X(DISPATCH_SITE_HEAD, 3, "the site file does not begin with a head of 5 bytes with H, C and S in range")                \
+    X(DISPATCH_SITE_LAYOUT, 4, "the site file's states or motions have a wrong tag, length, order or number")               \
+    X(DISPATCH_STATE_CELL, 5, "a state of the site names a cell that the hall does not have")                               \
+    X(DISPATCH_MOTION, 6, "a motion of the site breaks a rule on its values or sweeps")                                     \
+    X(DISPATCH_BOARD_LENGTH, 7, "the board does not have the length that the site needs")                                   \
+    X(DISPATCH_LIGHT_LAYOUT, 8, "the light is empty, too long, cut short or against its layout")                            \
+    X(DISPATCH_HOLDER_RANGE, 9, "the number of the tug, closure or holder is out of range")                                 \
+    X(DISPATCH_OUT_OF_RANGE, 10, "a cell, state, tick, motion or dwell is too large, or the first tick is past the last")   \
+    X(DISPATCH_GOAL_ROLLING, 11, "the goal is not a standing state")                                                        \
+    X(DISPATCH_HOLDER_STANDS, 12, "the tug or closure stands on the board already")                                         \
+    X(DISPATCH_HOLDER_ABSENT, 13, "the holder does not stand on the board")                                                 \
+    X(DISPATCH_AREA_SHORT, 14, "a lent area is too short")                                                                  \
+    X(DISPATCH_LAST_EDITION, 15, "the board is at its last edition, 4,294,967,295")                                         \
+    X(DISPATCH_STALE_LIGHT, 16, "the light was made from another edition of the board")                                     \
+    X(DISPATCH_CONFLICT, 17, "a wanted cell is held then, or the light is not a valid plan to its goal and arrival")        \
+    X(DISPATCH_NO_PLAN, 18, "no valid plan exists")                                                                         \
+    X(DISPATCH_TOO_FAR, 19, "the distance is above 511 decimetres")
+
+#define DISPATCH_ENTRY(name, number, text) name = number,
+enum dispatch_number { DISPATCH_NUMBERS(DISPATCH_ENTRY) DISPATCH_NUMBER_COUNT };
+#undef DISPATCH_ENTRY
+
+/* What a number says, in English; never null. */
+static inline const char *dispatch_text(int number) {
+    switch (number) {
+#define DISPATCH_ENTRY(name, number, text) case number: return text;
+        DISPATCH_NUMBERS(DISPATCH_ENTRY)
+#undef DISPATCH_ENTRY
+    }
+    return "not a number of the desk";
+}
+
+/* The parts of a returned word. All but the number are 0 if the call is refused. */
+#define DISPATCH_NUMBER(word) ((int)((word) & 0xff))                 /* of every call */
+#define DISPATCH_COUNT(word) ((uint32_t)((word) >> 8))               /* of dispatch_interval: how many intervals */
+#define DISPATCH_TICKS(word) ((uint32_t)((word) >> 8))               /* of dispatch_travel */
+#define DISPATCH_LENGTH(word) ((size_t)((word) >> 8 & 0xffffff))     /* of dispatch_route: bytes of the light */
+#define DISPATCH_ARRIVAL(word) ((uint32_t)((word) >> 32))            /* of dispatch_route */
+
+/* The last tick H, the number of cells C and the number of states S, as the head of a site file has them. They are read
+ * from its first 8 bytes, which must be there, and are in range once a call has accepted the file. So size the board by
+ * them, open it, and then size the other areas: a board by a faulty head has at most 17 MB, and the call refuses it. */
+#define DISPATCH_SITE_H(site) ((size_t)((site)[3] << 8 | (site)[4]))
+#define DISPATCH_SITE_C(site) ((size_t)(site)[5])
+#define DISPATCH_SITE_S(site) ((size_t)((site)[6] << 8 | (site)[7]))
+
+/* The sizes of the areas, in elements. The board has just that many bytes; the others have at least so many. */
+#define DISPATCH_BOARD_BYTES(H, C) (4 + (size_t)(C) * ((size_t)(H) + 1))
+#define DISPATCH_LIGHT_BYTES(H) (18 + 5 * (size_t)(H))               /* of dispatch_route: out */
+#define DISPATCH_WORK_WORDS(H, S) ((size_t)(S) * ((size_t)(H) + 1))  /* of dispatch_route: work */
+#define DISPATCH_INTERVAL_NUMBERS(H) ((size_t)(H) + 2)               /* of dispatch_interval: out */
+
+/* The largest H, C and S, the largest site file and the longest light, in bytes: enough for areas that serve every site. */
+#define DISPATCH_MOST_H 1000
+#define DISPATCH_MOST_C 255
+#define DISPATCH_MOST_S 256
+#define DISPATCH_MOST_SITE_BYTES 65536
+#define DISPATCH_MOST_LIGHT_BYTES 5018
+
+/* The most bytes of stack that a call takes, also to refuse. A thread needs some more for itself: 16 KiB are plenty. */
+#define DISPATCH_STACK_ROUTE 600000 /* dispatch_route */
+#define DISPATCH_STACK_LIGHT 61000  /* dispatch_audit and dispatch_post */
+#define DISPATCH_STACK 1000         /* each of the others */
+
 #ifdef __cplusplus
 extern "C" {
 #endif
 
-/* Sets every byte of the board to 0. */
+/* Checks the site and sets every byte of the board to 0: nothing is booked, and the edition is 0. */
 uint64_t dispatch_open(const uint8_t *site, size_t site_len, uint8_t *board, size_t board_len);
 
-/* Writes the first and last tick of each safe interval of the cell into out. */
+/* Writes the first and the last tick of each safe interval of the cell into out, in rising order. A safe interval is a run
+ * of free ticks that can't be lengthened. out has at least DISPATCH_INTERVAL_NUMBERS; later numbers stay. */
 uint64_t dispatch_interval(const uint8_t *site, size_t site_len, const uint8_t *board, size_t board_len,
                            uint16_t cell, uint16_t *out, size_t out_len);
 
-/* Writes the light of the traced plan with the least arrival into out, which has at least 18 + 5 * H bytes. The working
- * area has at least S * (H + 1) words, which are zero afterwards. dwell is the time that the tug unloads on its goal
- * cell, 0 to 1,000 ticks: the cell is free from the arrival to arrival + dwell, which is at most H, and among the plans
- * that can unload so the arrival is the least. A dwell above 1,000 is refused with 10, one for which no plan has room with 18. */
+/* Finds a route for a tug, 1 to 199, from a start state and tick to a goal state. The board is not written: a route that is
+ * granted books nothing until its light is posted. The light of the plan with the least arrival is written into out, which
+ * has at least DISPATCH_LIGHT_BYTES; later bytes stay. work has at least DISPATCH_WORK_WORDS, which are zero afterwards; what
+ * they hold before does not matter. dwell is the time that the tug unloads on its goal cell, 0 to 1,000 ticks: the cell is
+ * free from the arrival to arrival + dwell, which is at most H, and among the plans that can unload so the arrival is the
+ * least. DISPATCH_NO_PLAN means that there is no such plan at all. */
 uint64_t dispatch_route(const uint8_t *site, size_t site_len, const uint8_t *board, size_t board_len,
                         uint8_t tug, uint16_t start, uint16_t tick, uint16_t goal, uint16_t dwell,
                         uint8_t *out, size_t out_len, uint32_t *work, size_t work_len);
@@ -45,20 +127,22 @@ uint64_t dispatch_route(const uint8_t *site, size_t site_len, const uint8_t *boa
 uint64_t dispatch_audit(const uint8_t *site, size_t site_len, const uint8_t *board, size_t board_len,
                         const uint8_t *light, size_t light_len);
 
-/* Writes the light's tug over the pairs that its plan holds, those of its dwell among them, and adds 1 to the edition. */
+/* Books a light: writes its tug over the pairs of cell and tick that its plan holds, those of its dwell among them, and adds
+ * 1 to the edition. light_len is the length that dispatch_route gave, not that of the area. */
 uint64_t dispatch_post(const uint8_t *site, size_t site_len, uint8_t *board, size_t board_len,
                        const uint8_t *light, size_t light_len);
 
-/* Writes the closure over the cell's ticks first to last, and adds 1 to the edition. */
+/* Closes a cell: writes the closure, 200 to 254, over the cell's ticks first to last, both included, and adds 1 to the
+ * edition. */
 uint64_t dispatch_close(const uint8_t *site, size_t site_len, uint8_t *board, size_t board_len,
                         uint8_t holder, uint16_t cell, uint16_t first, uint16_t last);
 
-/* Clears every byte of one holder, and adds 1 to the edition. */
+/* Takes a tug or closure, 1 to 254, off the board: clears every byte of it, and adds 1 to the edition. */
 uint64_t dispatch_withdraw(const uint8_t *site, size_t site_len, uint8_t *board, size_t board_len, uint8_t holder);
 
 /* Answers the fewest ticks from rest to rest that cover at least distance decimetres: the speed is 0 at the first and at
  * the last tick, at most 15 decimetres a tick, and changes by at most 1 from a tick to the next. It needs no site and no
- * board. A distance above 511 is refused with 19, its only refusal. */
+ * board. A distance above 511 is refused with DISPATCH_TOO_FAR, its only refusal. */
 uint64_t dispatch_travel(uint32_t distance);
 
 #ifdef __cplusplus

@@ -482,6 +482,13 @@ pub enum Call {
 
 pub const CALLS: [&str; 7] = ["open", "interval", "route", "audit", "post", "close", "withdraw"];
 
+/// Every number that a call can return, as the pair of the call's place in `CALLS` and the number, in the order in which they are asked.
+pub fn possible() -> Vec<(usize, u8)> {
+    let own: [&[u8]; 7] =
+        [&[], &[10, 14], &[9, 10, 11, 12, 14, 18], &[8, 9, 10, 11, 12, 15, 16, 17], &[8, 9, 10, 11, 12, 15, 16, 17], &[9, 10, 12, 15, 17], &[9, 13, 15]];
+    (0..7).flat_map(|kind| (0..=7).chain(own[kind].iter().copied()).map(move |number| (kind, number))).collect()
+}
+
 impl Call {
     /// Its place in `CALLS`.
     pub fn kind(&self) -> usize {
@@ -781,7 +788,7 @@ impl Caller<'_> {
         Call::Interval { cell: near(rng, self.site.c, bad), out: length(rng, self.site.h + 2, bad) }
     }
 
-    /// A call of a list: those that document 01 names, and intervals, which change nothing.
+    /// A call of a list: those of 'Lists of calls' of docs/FORMATS.md, and intervals, which change nothing.
     pub fn listed(&self, rng: &mut Rng, board: &[u8]) -> Call {
         let bad = badness(rng);
         match rng.below(100) {

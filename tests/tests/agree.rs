@@ -276,7 +276,7 @@ impl Tally {
         }
     }
 
-    /// A list of calls from an opened board, with the plain board of document 01 beside it.
+    /// A list of calls from an opened board, with the plain board beside it.
     fn list(&mut self, rng: &mut Rng, size: Size) {
         let site = gen::site(rng, size);
         let file = encode(&site);
@@ -308,13 +308,6 @@ impl Tally {
             assert!(board == model.bytes(), "seed {}, call {}: the board differs from the plain board", self.seed, self.calls);
         }
     }
-}
-
-/// Every number that a call can return, by document 01 and by document 02 as far as it has landed.
-fn possible() -> Vec<(usize, u8)> {
-    let own: [&[u8]; 7] =
-        [&[], &[10, 14], &[9, 10, 11, 12, 14, 18], &[8, 9, 10, 11, 12, 15, 16, 17], &[8, 9, 10, 11, 12, 15, 16, 17], &[9, 10, 12, 15, 17], &[9, 13, 15]];
-    (0..7).flat_map(|kind| (0..=7).chain(own[kind].iter().copied()).map(move |number| (kind, number))).collect()
 }
 
 fn setting(name: &str, default: u64) -> u64 {
@@ -361,11 +354,11 @@ fn desk_and_plain_program_agree() {
     let counts: Vec<String> = tally.docks.iter().map(|(dock, n)| format!("{dock:?}:{n}")).collect();
     writeln!(log, "agree: dwell    {}", counts.join(" ")).unwrap();
     for pair in tally.pairs.keys() {
-        assert!(possible().contains(pair), "{} answers {}, which the documents do not give it", CALLS[pair.0], pair.1);
+        assert!(gen::possible().contains(pair), "{} answers {}, which docs/FORMATS.md does not give it", CALLS[pair.0], pair.1);
     }
     // A short run may miss the rarest numbers.
     if calls >= 100_000 {
-        for pair in possible() {
+        for pair in gen::possible() {
             let times = tally.pairs.get(&pair).copied().unwrap_or(0);
             assert!(times >= OFTEN, "{} answers {} only {times} times, so the run shows too little", CALLS[pair.0], pair.1);
         }

@@ -5,6 +5,7 @@
 use dispatch_tests::literal::{encode, Motion, Site, State, Sweep};
 use dispatch_tests::{c, four};
 use std::fs;
+use std::sync::Once;
 
 /// Each area in turn as a null pointer of length 0: the answer is that of an empty area. Between them, an output area that is one byte too
 /// short, and one that just suffices (its arrival, 5).
@@ -64,21 +65,21 @@ fn largest() -> Site {
     Site { h: 1000, c: 255, states: (0..256).map(|s| State { cell: cell(s), speed: 0 }).collect(), motions }
 }
 
-/// Each call in a thread whose stack is filled with a mark first: how many bytes of it are no longer the mark, less those
-/// that a thread takes which makes no call.
-const STACK: &str = r#"
+/// The calls that are measured, and what the header says of each.
+const CALLS: &str = r#"
+#define _GNU_SOURCE
 #include <pthread.h>
 #include <stdio.h>
 #include <stdlib.h>
 #include <string.h>
 #include <sys/mman.h>
 #include "include/dispatch.h"
-enum { SIZE = 4 << 20, HEAD = 18, FULL = HEAD + 5 * 1000, LONG = HEAD + 5 * 100000 };
-static uint8_t site[65537], light[LONG], out[FULL];
+enum { HEAD = 18, FULL = DISPATCH_MOST_LIGHT_BYTES, LONG = HEAD + 5 * 100000, LAST = 14 };
+static uint8_t site[DISPATCH_MOST_SITE_BYTES + 1], light[LONG], out[FULL];
 /* no steps, and a dwell of 1,000 */
 static const uint8_t dock[HEAD] = {16, 0, 15, 0, 0, 0, 3, 7, 0, 0, 0, 0, 0, 0, 0, 0, 3, 232};
-static uint16_t numbers[1002];
-static size_t site_len, board_len = 4 + 255 * 1001, work_len = 256 * 1001;
+static uint16_t numbers[DISPATCH_INTERVAL_NUMBERS(DISPATCH_MOST_H)];
+static size_t site_len, board_len = DISPATCH_BOARD_BYTES(DISPATCH_MOST_H, DISPATCH_MOST_C), work_len = DISPATCH_WORK_WORDS(DISPATCH_MOST_H, DISPATCH_MOST_S);
 static uint8_t *board;
 static uint32_t *work;
 static int call;
@@ -86,7 +87,7 @@ static uint64_t word;
 static void *run(void *unused) {
     switch (call) {
     case 1: word = dispatch_open(site, site_len, board, board_len); break;
-    case 2: word = dispatch_interval(site, site_len, board, board_len, 254, numbers, 1002); break;
+    case 2: word = dispatch_interval(site, site_len, board, board_len, 254, numbers, sizeof numbers / sizeof *numbers); break;
     case 3: word = dispatch_route(site, site_len, board, board_len, 7, 0, 0, 200, 900, out, sizeof out, work, work_len); break;
     case 4: word = dispatch_audit(site, site_len, board, board_len, light, LONG); break;
     case 5: word = dispatch_audit(site, site_len, board, board_len, light, FULL); break;
@@ -96,59 +97,117 @@ static void *run(void *unused) {
     case 9: word = dispatch_audit(site, site_len, board, board_len, dock, HEAD); break;
     case 10: word = dispatch_post(site, site_len, board, board_len, dock, HEAD); break;
     case 11: word = dispatch_travel(511); break;
+    case 12: word = dispatch_route(site, site_len, board, board_len, 7, 0, 0, 200, 900, out, sizeof out, work, work_len); break;
+    case 13: word = dispatch_route(0, 0, 0, 0, 0, 0, 0, 0, 0, 0, 0, 0, 0); break;
+    case LAST: word = dispatch_post(0, 0, 0, 0, 0, 0); break;
     }
     return unused;
 }
-static size_t used(void) {
-    uint8_t *stack = mmap(0, SIZE, PROT_READ | PROT_WRITE, MAP_PRIVATE | MAP_ANONYMOUS, -1, 0);
+static size_t said(void) {
+    switch (call) {
+    case 3: case 12: case 13: return DISPATCH_STACK_ROUTE;
+    case 4: case 5: case 6: case 9: case 10: case LAST: return DISPATCH_STACK_LIGHT;
+    default: return DISPATCH_STACK;
+    }
+}
+static void in_thread(uint8_t *stack, size_t size) {
     pthread_attr_t attributes;
     pthread_t thread;
-    size_t left = 0;
-    memset(stack, 0xa5, SIZE);
-    pthread_attr_init(&attributes);
-    pthread_attr_setstack(&attributes, stack, SIZE);
-    if (pthread_create(&thread, &attributes, run, 0)) exit(1);
-    pthread_join(thread, 0);
-    while (left < SIZE && stack[left] == 0xa5) left++;
-    munmap(stack, SIZE);
-    return SIZE - left;
+    if (pthread_attr_init(&attributes) || pthread_attr_setstack(&attributes, stack, size)) exit(2);
+    if (pthread_create(&thread, &attributes, run, 0) || pthread_join(thread, 0)) exit(3);
 }
-int main(void) {
+static void prepare(void) {
     static const uint8_t head[HEAD] = {16, 0, 15, 0, 0, 0, 0, 7, 0, 0, 0, 0, 0, 232, 3, 232, 0, 0};
-    site_len = fread(site, 1, sizeof site, fopen("target/c/largest.bin", "rb"));
+    FILE *file = fopen("target/c/largest.bin", "rb");
+    if (!file) exit(4);
+    site_len = fread(site, 1, sizeof site, file);
+    fclose(file);
     board = calloc(board_len, 1);
     work = calloc(work_len, sizeof *work);
+    if (!board || !work) exit(5);
     memcpy(light, head, HEAD);
     for (size_t k = 0; k < 100000; k++) {
         uint8_t step[5] = {18, 0, 2, 0, (uint8_t)k};
         memcpy(light + HEAD + 5 * k, step, 5);
     }
+}
+"#;
+
+/// Each call in a thread whose stack is filled with a mark first: how many bytes of it are no longer the mark, less those that a thread takes
+/// which makes no call.
+const MEASURED: &str = r#"
+enum { SIZE = 4 << 20 };
+static size_t used(void) {
+    uint8_t *stack = mmap(0, SIZE, PROT_READ | PROT_WRITE, MAP_PRIVATE | MAP_ANONYMOUS, -1, 0);
+    size_t left = 0;
+    if (stack == MAP_FAILED) exit(6);
+    memset(stack, 0xa5, SIZE);
+    in_thread(stack, SIZE);
+    while (left < SIZE && stack[left] == 0xa5) left++;
+    munmap(stack, SIZE);
+    return SIZE - left;
+}
+int main(void) {
+    prepare();
     call = 0;
     size_t thread = used();
-    for (call = 1; call <= 11; call++) {
+    for (call = 1; call <= LAST; call++) {
         size_t bytes = used() - thread;
-        printf("%d %zu\n", (int)(word & 255), bytes);
+        printf("%d %zu %zu\n", DISPATCH_NUMBER(word), bytes, said());
     }
 }
 "#;
 
-/// On the largest site, with a light of 1,000 motions around the ring, one that is too long and one with the longest dwell, each call keeps
-/// to what the header says.
+/// Each call in a thread that has just the stack that the header says, 16 KiB for itself, and what is left of a page. Below it nothing can be
+/// read or written, for 1 MiB: a call that takes more ends the program.
+const JUST: &str = r#"
+enum { PAGE = 4096, OWN = 16 << 10, BELOW = 1 << 20 };
+int main(void) {
+    prepare();
+    for (call = 1; call <= LAST; call++) {
+        size_t size = (said() + OWN + PAGE - 1) / PAGE * PAGE;
+        uint8_t *low = mmap(0, BELOW + size, PROT_NONE, MAP_PRIVATE | MAP_ANONYMOUS, -1, 0);
+        if (low == MAP_FAILED || mprotect(low + BELOW, size, PROT_READ | PROT_WRITE)) exit(6);
+        in_thread(low + BELOW, size);
+        munmap(low, BELOW + size);
+        printf("%d ", DISPATCH_NUMBER(word));
+    }
+}
+"#;
+
+/// The numbers of the measured calls, as they come.
+const ANSWERS: [u8; 14] = [0, 0, 0, 8, 0, 0, 0, 0, 0, 0, 0, 12, 3, 3];
+
+/// Builds the calls with a main function, and runs them on the largest site, whose file is written once for all.
+fn on_largest(name: &str, main: &str) -> String {
+    static WRITTEN: Once = Once::new();
+    WRITTEN.call_once(|| {
+        let folder = c::root().join("target/c");
+        fs::create_dir_all(&folder).unwrap();
+        fs::write(folder.join("largest.bin"), encode(&largest())).unwrap();
+    });
+    c::run(name, &format!("{CALLS}{main}"))
+}
+
+/// On the largest site, with a light of 1,000 motions around the ring, one that is too long and one with the longest dwell, and refused at
+/// once, each call keeps to what the header says; and the two large figures are not more than a tenth above what is measured.
 #[test]
 fn stack() {
-    let folder = c::root().join("target/c");
-    fs::create_dir_all(&folder).unwrap();
-    fs::write(folder.join("largest.bin"), encode(&largest())).unwrap();
-    let header = fs::read_to_string(c::root().join("include/dispatch.h")).unwrap();
-    for said in ["dispatch_route up to 600,000 bytes", "dispatch_audit and dispatch_post up to 61,000", "up to 4,000"] {
-        assert!(header.contains(said), "the header does not say {said}");
+    let printed = on_largest("stack", MEASURED);
+    let measured: Vec<Vec<usize>> = printed.lines().map(|line| line.split(' ').map(|number| number.parse().unwrap()).collect()).collect();
+    let answers: Vec<u8> = measured.iter().map(|line| line[0] as u8).collect();
+    assert_eq!(answers, ANSWERS);
+    for (k, line) in measured.iter().enumerate() {
+        assert!(line[1] <= line[2], "call {}: {} bytes of stack, and the header says {}", k + 1, line[1], line[2]);
     }
-    let printed = c::run("stack", STACK);
-    let measured: Vec<(u8, usize)> =
-        printed.lines().map(|line| line.split_once(' ').unwrap()).map(|(number, bytes)| (number.parse().unwrap(), bytes.parse().unwrap())).collect();
-    let wanted = [(0, 4_000), (0, 4_000), (0, 600_000), (8, 61_000), (0, 61_000), (0, 61_000), (0, 4_000), (0, 4_000), (0, 61_000), (0, 61_000), (0, 4_000)];
-    assert_eq!(measured.len(), wanted.len());
-    for (k, (&(number, bytes), &(expected, limit))) in measured.iter().zip(&wanted).enumerate() {
-        assert!(number == expected && bytes <= limit, "call {k}: number {number}, {bytes} bytes of stack");
+    for said in [dispatch::STACK_ROUTE, dispatch::STACK_LIGHT] {
+        let most = measured.iter().filter(|line| line[2] == said).map(|line| line[1]).max();
+        assert!(most.is_some_and(|most| said * 10 <= most * 11), "at most {most:?} bytes of stack, and the header says {said}");
     }
+}
+
+#[test]
+fn threads_with_just_the_stack() {
+    let wanted: String = ANSWERS.iter().map(|number| format!("{number} ")).collect();
+    assert_eq!(on_largest("just_the_stack", JUST), wanted);
 }

@@ -1,23 +1,16 @@
-//! README.md's programs in C, built and run as they are printed there. (Its lines in Rust are run as a documentation test.)
+//! README.md's programs in C, built and run as they are printed there. (Its program in Rust is run by `binding.rs`.)
 
 #![cfg(not(feature = "standin"))]
 
 use dispatch_tests::c;
-use std::fs;
-
-/// The first block of README.md that starts with this fence line and holds the mark.
-fn block(readme: &str, fence: &str, mark: &str) -> String {
-    let blocks = readme.split("```").skip(1).step_by(2);
-    let text = blocks.filter_map(|block| block.strip_prefix(fence)).find(|text| text.contains(mark));
-    text.unwrap_or_else(|| panic!("README.md has no block {fence} with {mark}")).trim_start().to_string()
-}
+use dispatch_tests::docs::{block, text};
 
 /// The program that makes this call prints what stands below the command that builds it.
 fn program(name: &str, call: &str) {
-    let readme = fs::read_to_string(c::root().join("README.md")).unwrap();
-    let prints = c::run(name, &block(&readme, "c\n", call));
-    let printed = block(&readme, "text\n", &format!("$ cc {name}.c"));
-    let (_, wanted) = printed.split_once('\n').unwrap();
+    let readme = text("README.md");
+    let prints = c::run(name, &block(&readme, "c", call));
+    let shown = block(&readme, "text", &format!("$ cc {name}.c"));
+    let (_, wanted) = shown.split_once('\n').unwrap();
     assert_eq!(prints, wanted);
 }
 

@@ -1,0 +1,20 @@
+//! Links the archive `libdispatch_c.a`: that of the repository in which this package stands, or that of the folder DISPATCH_LIB_DIR.
+
+use std::env;
+use std::path::{Path, PathBuf};
+
+fn main() {
+    println!("cargo:rerun-if-changed=build.rs");
+    println!("cargo:rerun-if-env-changed=DISPATCH_LIB_DIR");
+    let here = env::var_os("CARGO_MANIFEST_DIR").expect("cargo sets CARGO_MANIFEST_DIR");
+    let folder = env::var_os("DISPATCH_LIB_DIR").map_or_else(|| Path::new(&here).join("../../target/staticlib"), PathBuf::from);
+    let archive = folder.join("libdispatch_c.a");
+    println!("cargo:rerun-if-changed={}", archive.display());
+    if !archive.is_file() {
+        eprintln!("There is no {}.", archive.display());
+        eprintln!("Make it with `rt staticlib dispatch_c` in the repository of the release desk. If it is elsewhere, name its folder in DISPATCH_LIB_DIR.");
+        std::process::exit(1);
+    }
+    println!("cargo:rustc-link-search=native={}", folder.display());
+    println!("cargo:rustc-link-lib=static=dispatch_c");
+}

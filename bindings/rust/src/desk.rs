@@ -1,0 +1,147 @@
+//! A site with its board.
+
+use crate::{calls, Refusal, Sizes};
+use std::ops::RangeInclusive;
+
+/// A site with its board of bookings, and areas of the right sizes. All calls but [`travel`](crate::travel) are made through it.
+///
+/// A refused call changes nothing.
+#[derive(Clone, PartialEq, Eq, Debug)]
+pub struct Desk {
+    site: Vec<u8>,
+    sizes: Sizes,
+    board: Vec<u8>,
+}
+
+/// What a route is asked for.
+#[derive(Clone, Copy, PartialEq, Eq, Hash, Debug)]
+pub struct Trip {
+    /// The tug, 1 to 199.
+    pub tug: u8,
+    /// The state in which it starts.
+    pub start: u16,
+    /// The tick at which it is there.
+    pub tick: u16,
+    /// The standing state to which it is to go.
+    pub goal: u16,
+    /// How many ticks it unloads there, 0 to 1,000.
+    pub dwell: u16,
+}
+
+/// A route that is granted. It books nothing until its light is posted.
+#[derive(Clone, PartialEq, Eq, Hash, Debug)]
+pub struct Granted {
+    /// The light: the plan, with the edition of the board that it was made from.
+    pub light: Vec<u8>,
+    /// The tick at which the tug is at its goal; no plan that can unload there arrives earlier.
+    pub arrival: u16,
+}
+
+impl Desk {
+    /// Opens a fresh board for the bytes of a site file: nothing is booked, and the edition is 0.
+    ///
+    /// ```
+    /// use dispatch::{Desk, Refusal};
+    ///
+    /// assert_eq!(Desk::open(&[]), Err(Refusal::SiteHead));
+    /// ```
+    pub fn open(site: &[u8]) -> Result<Desk, Refusal> {
+        // Without a board an accepted site is refused for that alone, so a faulty head sizes nothing.
+        match calls::open(site, &mut []).refusal() {
+            Some(Refusal::BoardLength) => {}
+            Some(refusal) => return Err(refusal),
+            None => unreachable!("no board has 0 bytes"),
+        }
+        let sizes = Sizes::of(site).expect("an accepted site has a head");
+        let mut board = vec![0; sizes.board_bytes()];
+        calls::open(site, &mut board).accepted()?;
+        Ok(Desk { site: site.to_vec(), sizes, board })
+    }
+
+    /// Goes on with a board that [`Desk::board`] gave earlier, for the same site.
+    ///
+    /// ```
+    /// use dispatch::{Desk, Refusal};
+    ///
+    /// let site = [1, 0, 5, 0, 9, 1, 0, 1, 2, 0, 2, 0, 0];
+    /// let mut monday = Desk::open(&site)?;
+    /// monday.close(200, 0, 3..=4)?;
+    /// let tuesday = Desk::resume(&site, monday.board())?;
+    /// assert_eq!(tuesday.edition(), 1);
+    /// assert_eq!(Desk::resume(&site, &[]), Err(Refusal::BoardLength));
+    /// # Ok::<(), Refusal>(())
+    /// ```
+    pub fn resume(site: &[u8], board: &[u8]) -> Result<Desk, Refusal> {
+        let fresh = Desk::open(site)?;
+        if board.len() != fresh.board.len() {
+            return Err(Refusal::BoardLength);
+        }
+        Ok(Desk { board: board.to_vec(), ..fresh })
+    }
+
+    /// The bytes of the site file.
+    pub fn site(&self) -> &[u8] {
+        &self.site
+    }
+
+    /// The last tick, the cells and the states of the site.
+    pub fn sizes(&self) -> Sizes {
+        self.sizes
+    }
+
+    /// The bytes of the board, to keep them. [`Desk::resume`] goes on with them.
+    pub fn board(&self) -> &[u8] {
+        &self.board
+    }
+
+    /// How often the board has changed.
+    pub fn edition(&self) -> u32 {
+        u32::from_be_bytes([self.board[0], self.board[1], self.board[2], self.board[3]])
+    }
+
+    /// Who holds a cell at a tick: 0 nobody, 1 to 199 a tug, 200 to 254 a closure, 255 nobody known. Nothing for a cell or tick that the site
+    /// does not have.
+    pub fn holder(&self, cell: u16, tick: u16) -> Option<u8> {
+        let inside = cell < self.sizes.cells && tick <= self.sizes.horizon;
+        inside.then(|| self.board[4 + usize::from(cell) * (usize::from(self.sizes.horizon) + 1) + usize::from(tick)])
+    }
+
+    /// The safe intervals of a cell, in rising order: the runs of free ticks that can't be lengthened.
+    pub fn intervals(&self, cell: u16) -> Result<Vec<RangeInclusive<u16>>, Refusal> {
+        let mut numbers = vec![0; self.sizes.interval_numbers()];
+        let count = calls::interval(&self.site, &self.board, cell, &mut numbers).accepted()?.count();
+        Ok(numbers[..2 * count].chunks(2).map(|ends| ends[0]..=ends[1]).collect())
+    }
+
+    /// Finds the route with the least arrival among all plans that can unload at their goal. [`Refusal::NoPlan`] means that there is none.
+    ///
+    /// It takes up to [`STACK_ROUTE`](crate::STACK_ROUTE) bytes of stack, and allocates its areas; [`calls::route`] takes areas of your own.
+    pub fn route(&self, trip: Trip) -> Result<Granted, Refusal> {
+        let Trip { tug, start, tick, goal, dwell } = trip;
+        let mut light = vec![0; self.sizes.light_bytes()];
+        let mut work = vec![0; self.sizes.work_words()];
+        let word = calls::route(&self.site, &self.board, tug, start, tick, goal, dwell, &mut light, &mut work).accepted()?;
+        light.truncate(word.length());
+        Ok(Granted { light, arrival: word.arrival() })
+    }
+
+    /// Whether [`Desk::post`] would book the light now.
+    pub fn audit(&self, light: &[u8]) -> Result<(), Refusal> {
+        calls::audit(&self.site, &self.board, light).accepted().map(drop)
+    }
+
+    /// Books a light: every cell and tick that its plan holds, those of its dwell among them. The edition rises by 1.
+    pub fn post(&mut self, light: &[u8]) -> Result<(), Refusal> {
+        calls::post(&self.site, &mut self.board, light).accepted().map(drop)
+    }
+
+    /// Closes a cell for a run of ticks, under a closure's number, 200 to 254. The edition rises by 1.
+    pub fn close(&mut self, closure: u8, cell: u16, ticks: RangeInclusive<u16>) -> Result<(), Refusal> {
+        calls::close(&self.site, &mut self.board, closure, cell, *ticks.start(), *ticks.end()).accepted().map(drop)
+    }
+
+    /// Takes all bookings of a tug or closure, 1 to 254, off the board. The edition rises by 1.
+    pub fn withdraw(&mut self, holder: u8) -> Result<(), Refusal> {
+        calls::withdraw(&self.site, &mut self.board, holder).accepted().map(drop)
+    }
+}

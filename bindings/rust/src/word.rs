@@ -1,0 +1,59 @@
+//! The word that a call returns.
+
+use crate::Refusal;
+
+/// What a call of [`calls`](crate::calls) returns: its number in the low 8 bits, and above them the values of an accepted call. All values of
+/// a refused call are 0.
+#[derive(Clone, Copy, PartialEq, Eq, Hash, Debug)]
+pub struct Word(pub u64);
+
+impl Word {
+    /// 0 for an accepted call, else the number of the refusal.
+    pub const fn number(self) -> u8 {
+        self.0 as u8
+    }
+
+    /// The reason of the refusal, or nothing for an accepted call.
+    ///
+    /// # Panics
+    ///
+    /// If the archive gives a number that this package does not know: the two are of different versions.
+    pub fn refusal(self) -> Option<Refusal> {
+        match self.number() {
+            0 => None,
+            number => match Refusal::of(number) {
+                None => panic!("the archive answers {number}, which this package does not know: they are of different versions"),
+                known => known,
+            },
+        }
+    }
+
+    /// The word of an accepted call, or the reason of the refusal.
+    ///
+    /// # Panics
+    ///
+    /// As [`Word::refusal`].
+    pub fn accepted(self) -> Result<Word, Refusal> {
+        self.refusal().map_or(Ok(self), Err)
+    }
+
+    /// How many intervals [`interval`](crate::calls::interval) has written.
+    pub const fn count(self) -> usize {
+        (self.0 >> 8) as usize
+    }
+
+    /// What [`travel`](crate::calls::travel) answers.
+    pub const fn ticks(self) -> u16 {
+        (self.0 >> 8) as u16
+    }
+
+    /// The bytes of the light that [`route`](crate::calls::route) has written.
+    pub const fn length(self) -> usize {
+        (self.0 >> 8 & 0xff_ffff) as usize
+    }
+
+    /// The tick at which the route of [`route`](crate::calls::route) arrives.
+    pub const fn arrival(self) -> u16 {
+        (self.0 >> 32) as u16
+    }
+}

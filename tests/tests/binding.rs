@@ -1,0 +1,186 @@
+//! The Rust package in bindings/rust: its desk against the plain board, and a stranger's way to it.
+
+#![cfg(not(feature = "standin"))]
+
+use dispatch::{Desk, Granted, Refusal, Trip};
+use dispatch_tests::gen::{self, Call, Caller, Rng, Size};
+use dispatch_tests::literal::{encode, Site};
+use dispatch_tests::plain_board::PlainBoard;
+use dispatch_tests::{c, docs, four};
+use std::fs;
+use std::path::{Path, PathBuf};
+use std::process::{Command, Output};
+
+fn number<T>(result: &Result<T, Refusal>) -> u8 {
+    result.as_ref().err().map_or(0, |refusal| refusal.number())
+}
+
+/// One call of a list through the package, and through the plain board; gives a granted light.
+fn turn(desk: &mut Desk, model: &mut PlainBoard, site: &Site, call: &Call) -> (u8, Option<Vec<u8>>) {
+    match call {
+        &Call::Route { tug, start, tick, goal, dwell, .. } => {
+            let granted = desk.route(Trip { tug, start, tick, goal, dwell });
+            let (wanted, light) = model.route(tug, start, tick, goal, dwell, site.output_len(), site.states.len() * (site.h + 1));
+            assert_eq!(number(&granted), wanted.number, "{call:?}");
+            if let Ok(granted) = &granted {
+                assert_eq!(*granted, Granted { light, arrival: wanted.arrival as u16 });
+            }
+            (wanted.number, granted.ok().map(|granted| granted.light))
+        }
+        Call::Audit { light } => (both(&desk.audit(light), model.audit(light).number, call), None),
+        Call::Post { light } => (both(&desk.post(light), model.post(light).number, call), None),
+        &Call::Close { holder, cell, first, last } => {
+            (both(&desk.close(holder, cell, first..=last), model.close(holder, cell, first, last).number, call), None)
+        }
+        &Call::Withdraw { holder } => (both(&desk.withdraw(holder), model.withdraw(holder).number, call), None),
+        &Call::Interval { cell, .. } => (number(&desk.intervals(cell)), None),
+        Call::Open => panic!("no list opens a board"),
+    }
+}
+
+fn both(result: &Result<(), Refusal>, wanted: u8, call: &Call) -> u8 {
+    assert_eq!(number(result), wanted, "{call:?}");
+    wanted
+}
+
+/// The desk's board, edition, holders and intervals are those of the plain board.
+fn compare(desk: &Desk, model: &PlainBoard, site: &Site) {
+    let bytes = model.bytes();
+    assert_eq!(desk.board(), bytes);
+    assert_eq!(desk.edition().to_be_bytes(), bytes[..4]);
+    for cell in 0..=site.c {
+        let row = bytes[4..].chunks(site.h + 1).nth(cell);
+        let holders: Vec<Option<u8>> = (0..=site.h + 1).map(|tick| desk.holder(cell as u16, tick as u16)).collect();
+        let wanted: Vec<Option<u8>> = (0..=site.h + 1).map(|tick| row.and_then(|row| row.get(tick).copied())).collect();
+        assert_eq!(holders, wanted);
+        let free = |_: usize, tick: usize| row.is_some_and(|row| row[tick] == 0);
+        let intervals = desk.intervals(cell as u16);
+        match row {
+            Some(_) => assert_eq!(intervals.unwrap(), site.intervals(&free, cell).into_iter().map(|(first, last)| first..=last).collect::<Vec<_>>()),
+            None => assert_eq!(intervals, Err(Refusal::OutOfRange)),
+        }
+    }
+}
+
+/// Lists of calls from an opened board. Areas have the right sizes by themselves, so 14 does not occur, and nor does 15 on so short a list.
+#[test]
+fn desk_and_plain_board_agree() {
+    let mut rng = Rng::new(11);
+    let mut seen = [0; 20];
+    for _ in 0..300 {
+        let size = rng.pick(&[Size::Tiny, Size::Row, Size::Row, Size::Small]);
+        let site = gen::site(&mut rng, size);
+        let file = encode(&site);
+        let mut desk = Desk::open(&file).unwrap();
+        let mut model = PlainBoard::new(site.clone());
+        let mut caller = Caller { site: &site, file: &file, lights: vec![] };
+        for _ in 0..40 {
+            let call = caller.listed(&mut rng, desk.board());
+            let (number, light) = turn(&mut desk, &mut model, &site, &call);
+            seen[number as usize] += 1;
+            caller.lights.extend(light);
+            assert_eq!(desk.board(), model.bytes());
+        }
+        compare(&desk, &model, &site);
+        assert_eq!(Desk::resume(&file, desk.board()).as_ref(), Ok(&desk));
+        assert_eq!((desk.site(), usize::from(desk.sizes().horizon)), (&file[..], site.h));
+    }
+    for number in [0, 8, 9, 10, 11, 12, 13, 16, 17, 18] {
+        assert!(seen[number] >= 20, "number {number} occurs only {} times", seen[number]);
+    }
+}
+
+/// A refused site is refused with its own number, whatever its head says, and so is a board of a wrong length.
+#[test]
+fn refused_sites_and_boards() {
+    let mut rng = Rng::new(12);
+    for _ in 0..2_000 {
+        let site = gen::site(&mut rng, Size::Tiny);
+        let fault = rng.range(1, 6) as u8;
+        let file = gen::damaged(&mut rng, &site, &[fault]);
+        assert_eq!(number(&Desk::open(&file)), Site::read(&file).err().unwrap_or(0));
+        let board = vec![0; site.board_len()];
+        let wanted = Site::read(&file).map_or_else(|number| number, |read| if read.board_len() == board.len() { 0 } else { 7 });
+        assert_eq!(number(&Desk::resume(&file, &board)), wanted);
+    }
+    let file = four::bytes();
+    for len in [0, 55, 57] {
+        assert_eq!(Desk::resume(&file, &vec![0; len]), Err(Refusal::BoardLength));
+    }
+    let text = Desk::open(&file[..99]).unwrap_err().to_string();
+    assert_eq!(text, "a field of the site file runs past the file's end (2)");
+}
+
+/// Cargo in the repository's folder, as a stranger calls it.
+fn cargo(words: &[&str]) -> Output {
+    let mut command = Command::new(env!("CARGO"));
+    for setting in ["CARGO_TARGET_DIR", "CARGO_ENCODED_RUSTFLAGS", "RUSTFLAGS", "DISPATCH_LIB_DIR"] {
+        command.env_remove(setting);
+    }
+    command.current_dir(c::root()).args(words).output().expect("cargo does not start")
+}
+
+fn done(output: Output) -> String {
+    assert!(output.status.success(), "{}", String::from_utf8_lossy(&output.stderr));
+    String::from_utf8(output.stdout).unwrap()
+}
+
+/// README's program in Rust in a new package of an edition, made with README's commands.
+fn new_package(edition: &str) -> PathBuf {
+    let readme = docs::text("README.md");
+    let name = format!("target/rust/first{edition}");
+    let folder = c::root().join(&name);
+    let _ = fs::remove_dir_all(&folder);
+    fs::create_dir_all(folder.parent().unwrap()).unwrap();
+    let manifest = format!("{name}/Cargo.toml");
+    done(cargo(&["new", "--quiet", "--vcs", "none", "--edition", edition, &name]));
+    done(cargo(&["add", "--quiet", "--offline", "--manifest-path", &manifest, "--path", "bindings/rust"]));
+    fs::write(folder.join("src/main.rs"), docs::block(&readme, "rust", "fn main")).unwrap();
+    folder
+}
+
+#[test]
+fn new_packages() {
+    let readme = docs::text("README.md");
+    let shown = docs::block(&readme, "text", "$ cargo new first");
+    let wanted: String = shown.lines().skip_while(|line| !line.contains("cargo run")).skip(1).map(|line| format!("{line}\n")).collect();
+    for edition in ["2021", "2024"] {
+        let folder = new_package(edition);
+        let printed = done(cargo(&["run", "--quiet", "--offline", "--manifest-path", folder.join("Cargo.toml").to_str().unwrap()]));
+        assert_eq!(printed, wanted, "edition {edition}");
+        fs::remove_dir_all(&folder).unwrap();
+    }
+}
+
+/// The package itself as edition 2024, with every warning an error: what a user who copies it may do.
+#[test]
+fn package_as_edition_2024() {
+    let folder = c::root().join("target/rust");
+    fs::create_dir_all(&folder).unwrap();
+    let built = Command::new(std::env::var_os("RUSTC").unwrap_or("rustc".into()))
+        .args(["--edition", "2024", "--crate-type", "rlib", "--crate-name", "dispatch", "-D", "warnings", "bindings/rust/src/lib.rs", "--out-dir"])
+        .arg(&folder)
+        .current_dir(c::root())
+        .output()
+        .unwrap();
+    done(built);
+}
+
+/// Without the archive, the build says what is missing and how to make it.
+#[test]
+fn archive_missing() {
+    let folder = Path::new(env!("CARGO_TARGET_TMPDIR")).join("empty");
+    fs::create_dir_all(&folder).unwrap();
+    let target = Path::new(env!("CARGO_TARGET_TMPDIR")).join("archive_missing");
+    let built = Command::new(env!("CARGO"))
+        .args(["build", "--offline", "--manifest-path"])
+        .arg(c::root().join("bindings/rust/Cargo.toml"))
+        .arg("--target-dir")
+        .arg(&target)
+        .env("DISPATCH_LIB_DIR", &folder)
+        .output()
+        .unwrap();
+    let said = String::from_utf8_lossy(&built.stderr);
+    assert!(!built.status.success());
+    assert!(said.contains("empty/libdispatch_c.a") && said.contains("rt staticlib dispatch_c") && said.contains("DISPATCH_LIB_DIR"), "{said}");
+}

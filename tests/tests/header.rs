@@ -1,0 +1,101 @@
+//! include/dispatch.h as C99, C11, C17 and as C++11, C++17, C++20, and what its macros say against the Rust package.
+
+#![cfg(not(feature = "standin"))]
+
+use dispatch::{Refusal, Sizes, Word};
+use dispatch_tests::{c, four};
+
+const HEADS: [(u16, u16, u16); 4] = [(12, 4, 5), (1, 1, 1), (1_000, 255, 256), (258, 3, 259)];
+
+/// Refused, an interval's, a travel time's, a route's, and one that has a bit in every part.
+const WORDS: [u64; 6] = [18, 3 << 8, 50 << 8, 10 << 32 | 38 << 8, 1_000 << 32 | 5_018 << 8, 0x0123_0000_0089_ab00];
+
+/// Prints every text, every size and every part of a word. It is C and C++ alike.
+fn source() -> String {
+    let site: Vec<String> = four::bytes().iter().map(u8::to_string).collect();
+    let heads: String = HEADS.map(|(h, c, s)| format!("    sizes({h}, {c}, {s});\n")).concat();
+    let words: String = WORDS.map(|word| format!("    parts(UINT64_C({word}));\n")).concat();
+    format!(
+        r#"#define __STDC_CONSTANT_MACROS
+#include "include/dispatch.h"
+#include <stdio.h>
+static const uint8_t site[100] = {{{}}};
+/* of constants, so that areas can be arrays */
+static uint8_t board[DISPATCH_BOARD_BYTES(12, 4)], light[DISPATCH_LIGHT_BYTES(12)];
+static uint32_t work[DISPATCH_WORK_WORDS(12, 5)];
+static uint16_t numbers[DISPATCH_INTERVAL_NUMBERS(12)];
+static void sizes(unsigned h, unsigned c, unsigned s) {{
+    printf("%zu %zu %zu %zu\n", DISPATCH_BOARD_BYTES(h, c), DISPATCH_LIGHT_BYTES(h), DISPATCH_WORK_WORDS(h, s), DISPATCH_INTERVAL_NUMBERS(h));
+}}
+static void parts(uint64_t word) {{
+    printf("%d %u %u %zu %u\n", DISPATCH_NUMBER(word), (unsigned)DISPATCH_COUNT(word), (unsigned)DISPATCH_TICKS(word), DISPATCH_LENGTH(word),
+           (unsigned)DISPATCH_ARRIVAL(word));
+}}
+int main(void) {{
+    uint64_t word;
+    int number;
+    for (number = 0; number < DISPATCH_NUMBER_COUNT; number++) printf("%d %s\n", number, dispatch_text(number));
+    printf("%s, %s, %s\n", dispatch_text(DISPATCH_STALE_LIGHT), dispatch_text(DISPATCH_NUMBER_COUNT), dispatch_text(-1));
+{heads}{words}    printf("%d %d %d %d %d\n", DISPATCH_MOST_H, DISPATCH_MOST_C, DISPATCH_MOST_S, DISPATCH_MOST_SITE_BYTES, DISPATCH_MOST_LIGHT_BYTES);
+    printf("%d %d %d\n", DISPATCH_STACK_ROUTE, DISPATCH_STACK_LIGHT, DISPATCH_STACK);
+    printf("%zu %zu %zu\n", DISPATCH_SITE_H(site), DISPATCH_SITE_C(site), DISPATCH_SITE_S(site));
+    printf("%zu %zu %zu %zu\n", sizeof board, sizeof light, sizeof work, sizeof numbers);
+    word = dispatch_open(site, sizeof site, board, sizeof board);
+    printf("%d\n", DISPATCH_NUMBER(word));
+    word = dispatch_route(site, sizeof site, board, sizeof board, 7, 0, 0, 4, 2, light, sizeof light, work, sizeof work / sizeof *work);
+    printf("%d %zu %u\n", DISPATCH_NUMBER(word), DISPATCH_LENGTH(word), (unsigned)DISPATCH_ARRIVAL(word));
+    word = dispatch_post(site, sizeof site, board, sizeof board, light, DISPATCH_LENGTH(word));
+    printf("%d\n", DISPATCH_NUMBER(word));
+    word = dispatch_interval(site, sizeof site, board, sizeof board, 3, numbers, sizeof numbers / sizeof *numbers);
+    printf("%d %u\n", DISPATCH_NUMBER(word), (unsigned)DISPATCH_COUNT(word));
+    return 0;
+}}
+"#,
+        site.join(", ")
+    )
+}
+
+/// The same by the Rust package, and from the numbers of the documents.
+fn wanted() -> String {
+    let mut text = "0 accepted\n".to_string();
+    text.extend(Refusal::ALL.iter().map(|refusal| format!("{} {}\n", refusal.number(), refusal.text())));
+    text += &format!("{}, not a number of the desk, not a number of the desk\n", Refusal::StaleLight.text());
+    for (horizon, cells, states) in HEADS {
+        let sizes = Sizes { horizon, cells, states };
+        text += &format!("{} {} {} {}\n", sizes.board_bytes(), sizes.light_bytes(), sizes.work_words(), sizes.interval_numbers());
+    }
+    for word in WORDS.map(Word) {
+        // A count has 32 bits in C and is a usize in Rust: as wide as it can be there.
+        text += &format!("{} {} {} {} {}\n", word.number(), word.count() as u32, (word.0 >> 8) as u32, word.length(), word.0 >> 32);
+    }
+    text += "1000 255 256 65536 5018\n";
+    text += &format!("{} {} {}\n", dispatch::STACK_ROUTE, dispatch::STACK_LIGHT, dispatch::STACK);
+    let sizes = Sizes::of(&four::bytes()).unwrap();
+    text += &format!("{} {} {}\n", sizes.horizon, sizes.cells, sizes.states);
+    text += "56 78 260 28\n0\n0 33 5\n0\n0 2\n";
+    text
+}
+
+#[test]
+fn in_c() {
+    for standard in ["c99", "c11", "c17"] {
+        assert_eq!(c::run_as("cc", standard, &format!("header_{standard}"), &source()), wanted(), "{standard}");
+    }
+}
+
+#[test]
+fn in_cpp() {
+    for standard in ["c++11", "c++17", "c++20"] {
+        assert_eq!(c::run_as("c++", standard, &format!("header_{}", standard.replace('+', "p")), &source()), wanted(), "{standard}");
+    }
+}
+
+/// The parts of a word by the Rust package, by their numbers.
+#[test]
+fn parts_of_a_word() {
+    let granted = Word(10 << 32 | 38 << 8);
+    assert_eq!((granted.number(), granted.length(), granted.arrival()), (0, 38, 10));
+    assert_eq!((Word(2 << 8).count(), Word(50 << 8).ticks()), (2, 50));
+    assert_eq!((Word(16).accepted(), granted.accepted()), (Err(Refusal::StaleLight), Ok(granted)));
+    assert_eq!((granted.refusal(), Refusal::of(0), Refusal::of(20)), (None, None, None));
+}
