@@ -1,4 +1,4 @@
-//! The worked site of document 01, 'Four in line', from the numbers of its text.
+//! The worked hall 'Four in line', from its numbers as docs/FORMATS.md has them.
 
 use crate::literal::{encode, Motion, Site, State, Sweep};
 
@@ -26,7 +26,7 @@ pub fn bytes() -> Vec<u8> {
     encode(&site())
 }
 
-/// The light of case B, as document 01 prints it, with the head of document 02's request 2, which ends with the dwell: none here.
+/// The light of case B.
 pub const B_LIGHT: &str = "10 000F 00000001 07 0000 0000 0004 000A 0000, 11 0002 0005, 12 0002 0000, 12 0002 0001, 12 0002 0002";
 
 pub fn hex(text: &str) -> Vec<u8> {

@@ -1,4 +1,4 @@
-//! The definitions of document 01, and of document 02 as far as it has landed, as they read, with sets and plain loops. Nothing here is made fast.
+//! The rules of docs/FORMATS.md as they read, with sets and plain loops. Nothing here is made fast, and nothing is taken from crates/meaning.
 
 #[derive(Clone, Copy, PartialEq, Eq, Debug)]
 pub struct State {

@@ -1,4 +1,4 @@
-//! The plain board of document 01: an edition and entries of a holder with its set of pairs.
+//! The plain board of 'Lists of calls' of docs/FORMATS.md: an edition and entries of a holder with its set of pairs.
 //! It sees the site and each call's arguments, with areas as lengths, and never the bytes of a board.
 
 use crate::desk::Answer;
@@ -137,8 +137,8 @@ impl PlainBoard {
         Answer::plain(0)
     }
 
-    /// The board's bytes as document 01 compares them: each pair's holder or 0.
-    /// Panics if two entries have one pair, which demand 3 excludes.
+    /// The board's bytes as they are compared: each pair's holder or 0.
+    /// Panics if two entries have one pair, which is excluded.
     pub fn bytes(&self) -> Vec<u8> {
         let mut bytes = vec![0; self.site.board_len()];
         bytes[..4].copy_from_slice(&self.n.to_be_bytes());

@@ -5,7 +5,7 @@ use crate::desk::Answer;
 use crate::literal::{fields, number, put, with_head, Light, Site, Step, Sweep, MAX_DWELL};
 use std::sync::OnceLock;
 
-/// The faults: those of document 01 under "Wrong desks", then smaller ones, then refusals of a call in the wrong order, then those of the day
+/// The faults: those of the specification ("Wrong desks" of docs/PROMISES.md), then smaller ones, then refusals of a call in the wrong order, then those of the day
 /// program with an empty script, then those of the time at the dock: the search, what is checked and held, number 10, layouts and areas, the
 /// day program; then those of where a sweep uses its cell; last those of the travel times.
 #[rustfmt::skip]

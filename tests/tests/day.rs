@@ -1,4 +1,4 @@
-//! The day program as an executable against an independent reading of document 01 and of requests 1 and 2 of document 02.
+//! The day program as an executable against an independent reading of docs/FORMATS.md ('Script', 'What the day program prints').
 
 use dispatch_tests::gen::{self, Rng, Size};
 use dispatch_tests::literal::{encode, put};
@@ -309,4 +309,33 @@ fn script_longer_than_any_area() {
         }
     }
     agree(&folder, Some(&site), &script, "a script of 200,000 bytes");
+}
+
+/// A stack of 1 MiB is enough, as docs/FORMATS.md says: for a posted light of 999 motions, to and fro until the goal's cell is open. Less than
+/// 512 KiB is not, so that this test could fail.
+#[cfg(not(feature = "standin"))]
+#[test]
+fn stack_of_1_mib() {
+    use dispatch_tests::literal::{Motion, Site, State, Sweep};
+    let folder = folder("stack");
+    let motion = |from, to, cells: [u8; 2]| {
+        let sweeps = vec![Sweep { cell: cells[0], a: 0, b: 1 }, Sweep { cell: cells[1], a: 1, b: 1 }];
+        Motion { from, to, d: 1, sweeps }
+    };
+    let states = [(0, 1), (1, 1), (2, 0)].map(|(cell, speed)| State { cell, speed }).to_vec();
+    let motions = vec![motion(0, 1, [0, 1]), motion(1, 0, [1, 0]), motion(0, 2, [0, 2])];
+    let site = Site { h: 1_000, c: 3, states, motions };
+    fs::write(folder.join("site.bin"), encode(&site)).unwrap();
+    let mut script = Vec::new();
+    put(&mut script, 32, &[200, 2, 0, 0, 3, 230]);
+    put(&mut script, 34, &[7, 0, 0, 0, 0, 0, 2, 0, 0]);
+    put(&mut script, 35, &[]);
+    fs::write(folder.join("script"), &script).unwrap();
+    let run = |kib: usize| {
+        let limited = format!("ulimit -s {kib} && exec \"$0\" <script");
+        Command::new("sh").args(["-c", &limited]).arg(program()).current_dir(&folder).output().unwrap()
+    };
+    let done = run(1_024);
+    assert_eq!((String::from_utf8(done.stdout).unwrap().as_str(), done.status.success()), ("0 1 0\n0 1 999\n0 2 0\n", true));
+    assert!(!run(512).status.success());
 }

@@ -55,14 +55,20 @@ impl Names {
         walk(&root.join("crates"), &mut found);
         walk(&root.join("tests/tests"), &mut found);
         walk(&root.join("tests/src"), &mut found);
+        walk(&root.join("bindings"), &mut found);
+        walk(&root.join("include"), &mut found);
         for path in found {
             let file = path.file_name().unwrap().to_string_lossy().to_string();
             let place = path.strip_prefix(&root).unwrap().to_string_lossy().to_string();
-            let krate = place.split('/').nth(1).unwrap().to_string();
+            // The package of bindings/rust is named dispatch.
+            let krate = if place.starts_with("bindings/rust") { "dispatch" } else { place.split('/').nth(1).unwrap() }.to_string();
             names.files.insert(file.clone());
             match file.rsplit_once('.') {
                 Some((label, "edit")) => drop(names.edits.entry(krate).or_default().insert(label.to_string())),
                 Some((_, "rt" | "rs")) => names.add_code(&krate, &fs::read_to_string(&path).unwrap()),
+                Some((_, "h")) => names
+                    .all
+                    .extend(fs::read_to_string(&path).unwrap().split(|c: char| !is_name(c)).filter(|word| word.starts_with("DISPATCH_")).map(str::to_string)),
                 Some((_, "antt")) => names.add_definitions(&fs::read_to_string(&path).unwrap()),
                 _ => {}
             }
@@ -70,12 +76,12 @@ impl Names {
         names
     }
 
-    /// Functions, types, constants, and the cases of enums.
+    /// Functions, types, constants, modules, and the cases of enums.
     fn add_code(&mut self, krate: &str, text: &str) {
         let mut cases = false;
         for line in text.lines() {
             let words: Vec<&str> = line.split_whitespace().filter(|word| !matches!(*word, "pub" | "extern" | "\"C\"")).collect();
-            if let ["fn" | "struct" | "enum" | "const", rest @ ..] = words.as_slice() {
+            if let ["fn" | "struct" | "enum" | "const" | "mod", rest @ ..] = words.as_slice() {
                 let name = first_name(&rest.join(" "), &[]).to_string();
                 self.items.entry(krate.to_string()).or_default().insert(name.clone());
                 self.all.insert(name);

@@ -1,4 +1,5 @@
-//! Travel times: the desk's call, the generator program and the table in the source, against a dynamic programme written from the document.
+//! Travel times: the desk's call, the generator program and the table in the source, against a dynamic programme written from 'Travel times' of
+//! docs/FORMATS.md.
 
 use dispatch_tests::desk::{self, Answer};
 use dispatch_tests::travel::{self, is_run, LAST, LIMIT};
@@ -10,7 +11,7 @@ fn every_entry() {
     }
 }
 
-/// Entries that the document names, and others worked by hand: by the desk and by the dynamic programme.
+/// Entries that 'Travel times' of docs/FORMATS.md names: by the desk and by the dynamic programme.
 #[test]
 fn named_entries() {
     #[rustfmt::skip]

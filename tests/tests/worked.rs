@@ -1,5 +1,5 @@
-//! The worked cases A to O of 'Four in line', and those of document 02's requests, with the desk's calls; routes also with the plain program's.
-//! The cases of document 01 have dwell 0.
+//! The worked cases A to O of 'Four in line' of docs/FORMATS.md, which have dwell 0, and cases of the requests, with the desk's calls; routes also
+//! with the plain program's.
 
 use dispatch_tests::desk::{self, Answer};
 use dispatch_tests::literal::{encode, with_head, Light, Motion, Site, State, Step, Sweep};

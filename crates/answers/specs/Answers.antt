@@ -1,4 +1,4 @@
--- The answers of the public calls: the documents' number and values for each case, and the case for each number.
+-- The answers of the public calls: the number and values of docs/FORMATS.md for each case, and the case for each number.
 -- Assumes nothing.
 use Prim.Native.Nat.{ℕ, zero, suc}
 use mathlib.Core.List.{List, [], _∷_}

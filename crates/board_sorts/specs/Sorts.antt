@@ -1,4 +1,4 @@
--- Each case of the enum `Sort` as the sort that document 01 names.
+-- Each case of the enum `Sort` as the sort that 'Board' of docs/FORMATS.md names.
 -- Assumes nothing.
 use Rattle.meaning.specs.Board.{Sort, nobody, tug, closure, unknown}
 use Rattle.board_sorts.specs.declared.Sort as Read

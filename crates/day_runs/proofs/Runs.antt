@@ -88,6 +88,6 @@ day-turns (RunPrints.opened κs file area line file′ area′ line′ script te
 pub run-prints : (file script text : List ℕ) → RunPrints file script text → text ≡ dayText file script
 run-prints file script text p = all-laws .day .only-turns file script text (day-turns p)
 
--- which is what the documents say in words
+-- which is what DayPrints says in words
 pub run-says : (file script text : List ℕ) → Bytes script → RunPrints file script text → DayPrints file script text
 run-says file script text b p = subst (DayPrints file script) (sym (run-prints file script text p)) (all-laws .day .prints file script b)

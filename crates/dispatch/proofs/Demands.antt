@@ -71,7 +71,7 @@ exact file l q d (Calls.closes κs f board f′ left h cell first last h′ cell
     close-meant f board f′ left out words r κs h cell first last h′ cell′ first′ last′ p .0
 exact file l q d (Calls.withdraws κs f board f′ left h h′ out words r p) = withdraw-meant f board f′ left out words r κs h h′ p .0
 
--- So each call returns and writes exactly what the documents say; the intervals are all safe intervals and the audit is right; and after
+-- So each call returns and writes exactly what is meant; the intervals are all safe intervals and the audit is right; and after
 -- every list of calls, of any length, the board and all answers are the plain board's, with routes that are complete and earliest.
 pub demand1 : Demand1 Calls
 demand1 = exact-demands Calls exact .first

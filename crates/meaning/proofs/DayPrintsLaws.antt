@@ -1,4 +1,4 @@
--- The day program prints what the documents say: digits, lines, field by field the whole script, and a line for an empty one.
+-- The day program prints what DayPrints says: digits, lines, field by field the whole script, and a line for an empty one.
 -- Assumes nothing.
 use Prim.Native.Nat.{ℕ, zero, suc, _+_, _*_, _/_, _%_, _≤_, _<_}
 use native.Mathlib.Omega.{arith}

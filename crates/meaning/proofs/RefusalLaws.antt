@@ -1,4 +1,4 @@
--- The lists of refusals say what the paper says, number by number, of a board of bytes and of the plain board.
+-- The lists of refusals say what their sentences say, number by number, of a board of bytes and of the plain board.
 -- Assumes nothing.
 use Prim.Native.Nat.{ℕ, suc, _+_, _*_, _-_, _≤_, _<_}
 use native.Mathlib.Omega.{arith}

@@ -1,4 +1,4 @@
--- Refusals 1 to 7 say what the paper says of a file, of its fields, and of a board, and 19 what it says of a distance.
+-- Refusals 1 to 7 say what their sentences say of a file, of its fields, and of a board, and 19 of a distance.
 -- Assumes nothing.
 use Prim.Native.Nat.{ℕ, _+_, _*_, _-_, _/_, _<_}
 use native.Mathlib.Omega.{arith}

@@ -1,4 +1,4 @@
--- Answers of calls: 'When the desk says no' of document 01.
+-- Answers of calls: 'When the desk says no' of docs/FORMATS.md.
 -- Assumes nothing.
 use Prim.Native.Nat.{ℕ, zero, suc, _≤_, _<_}
 use mathlib.Core.Path.{_≡_}

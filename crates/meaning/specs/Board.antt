@@ -1,4 +1,4 @@
--- The board: who holds which cell at which tick, as bytes.
+-- The board: who holds which cell at which tick, as bytes ('Board' of docs/FORMATS.md).
 -- Assumes nothing.
 use Prim.Native.Nat.{ℕ, zero, suc, _+_, _*_, _-_}
 use mathlib.Core.Bool.{Bool, true, false, cond}

@@ -1,4 +1,4 @@
--- The calls: the list of refusals, and what each call returns and leaves in what it was lent.
+-- The calls: the list of refusals, and what each call returns and leaves in what it was lent ('Calls' of docs/FORMATS.md).
 -- Assumes nothing.
 use Prim.Native.Nat.{ℕ, zero, suc, _+_, _*_}
 use mathlib.Core.Bool.{Bool, true, false, cond, not}
@@ -18,7 +18,7 @@ use Rattle.meaning.specs.Intervals.{Interval, intervals, numbersOf}
 
 -- ---- the calls and their own arguments
 
--- the calls of 'Lists of calls'
+-- the calls of 'Lists of calls' of docs/FORMATS.md
 pub data Call : Type 0 where
   route : (tug : ℕ) (start : Node) (goal dwell : ℕ) → Call
   audit : (light : List ℕ) → Call
@@ -256,6 +256,6 @@ abbrev pub doneBy : Site → Lent → PublicCall → ℕ → Done
 doneBy site l q zero = acceptedDone site l q
 doneBy site l q (suc n) = refusedDone site l (suc n)
 
--- what the documents say that a call returns and leaves, over any site file and anything lent
+-- what a call returns and leaves, over any site file and anything lent
 unfoldable pub meant : List ℕ → Lent → PublicCall → Done
 meant file l q = doneBy (siteOf file) l q (lowest (refusals file l q))

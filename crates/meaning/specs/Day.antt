@@ -1,4 +1,5 @@
--- The day program: from the bytes of site.bin and of the script to the lines that it prints.
+-- The day program: from the bytes of site.bin and of the script to the lines that it prints ('Script' and
+-- 'What the day program prints' of docs/FORMATS.md).
 -- Assumes nothing.
 use Prim.Native.Nat.{ℕ, zero, suc, _+_, _/_, _%_}
 use mathlib.Core.Bool.{Bool, true, false, cond, _&&_}

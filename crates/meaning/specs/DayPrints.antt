@@ -1,4 +1,4 @@
--- What the day program prints, in the words of documents 01 and 02: which bytes follow from a site file and a script. No reader and
+-- What the day program prints, in the words of docs/FORMATS.md: which bytes follow from a site file and a script. No reader and
 -- no printing function stands in it.
 -- Assumes nothing.
 use Prim.Native.Nat.{ℕ, suc, _+_, _*_, _≤_, _<_}

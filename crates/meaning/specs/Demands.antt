@@ -61,7 +61,7 @@ abbrev pub OnlyBoard : Lent → Done → Type 0
 OnlyBoard l d = (d .values ≡ []) × (d .lent .out ≡ l .out) × (d .lent .words ≡ l .words)
 
 pub record Demand1 (desk : Desk) : Type 0 where
-  -- a call returns and writes exactly what the documents say
+  -- a call returns and writes exactly what is meant
   pub exactly : Exact desk
   -- a refused call gives the first number of the list that applies; 0 where none does
   pub first-number : (file : List ℕ) (l : Lent) (q : PublicCall) (d : Done) → desk file l q d → d .number ≡ lowest (refusals file l q)

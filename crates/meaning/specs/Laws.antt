@@ -85,7 +85,7 @@ pub record DwellRight : Type 0 where
       → Leads site f b (wait n ∷ []) (record { state = b .state; tick = b .tick + n })
   pub wait-unloads : (site : Site) (f : Free) (b c : Node) (n : ℕ) → Leads site f b (wait n ∷ []) c → Unloads site f b n
   -- a dwell of 0 asks for nothing that valid steps do not have, and holds nothing but the start's pair and what the steps use: plans
-  -- without a dwell are those of document 01
+  -- without a dwell are as if there were none
   pub no-dwell : (site : Site) → WellFormed site → (f : Free) (a : Node) (ps : List Step) (b : Node) → Valid site f a ps b → Unloads site f b 0
   pub no-dwell-holds : (site : Site) → WellFormed site → (f : Free) (a : Node) (ps : List Step) (b : Node) → Valid site f a ps b
       → (c t : ℕ) → Holds site a ps b 0 c t → ((c ≡ cellOf site (a .state)) × (t ≡ a .tick)) ⊎ Along site c t a ps
@@ -150,7 +150,7 @@ pub data DayTurns (file script : List ℕ) : List ℕ → Type 0 where
       → DayTurns file script text
 
 pub record DayRight : Type 0 where
-  -- it prints what the documents say, and nothing else
+  -- it prints what DayPrints says, and nothing else
   pub prints : (file script : List ℕ) → Bytes script → DayPrints file script (dayText file script)
   pub only-prints : (file script text : List ℕ) → Bytes script → DayPrints file script text → text ≡ dayText file script
   -- after a successful open an empty script prints 0 0 0, byte by byte

@@ -1,4 +1,5 @@
--- The light: a plan as a route call writes it and a post call takes it. 'Light' is the format's own word for a granted plan.
+-- The light: a plan as a route call writes it and a post call takes it. 'Light' is the format's own word for a granted plan, and
+-- the section of docs/FORMATS.md that has it byte by byte.
 -- Assumes nothing.
 use Prim.Native.Nat.{ℕ}
 use mathlib.Core.Bool.{Bool, true, cond, not, _&&_, _||_}

@@ -1,4 +1,4 @@
--- The numbers of documents 01 and 02: limits, tags and sizes, each named once.
+-- The numbers of docs/FORMATS.md: limits, tags and sizes, each named once.
 -- Assumes nothing.
 use Prim.Native.Nat.{ℕ}
 

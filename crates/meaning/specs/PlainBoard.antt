@@ -1,4 +1,5 @@
--- The plain board: an edition and entries. It is fed the site and each call's arguments except the board, areas as lengths.
+-- The plain board: an edition and entries. It is fed the site and each call's arguments except the board, areas as lengths
+-- ('Lists of calls' of docs/FORMATS.md).
 -- Assumes nothing.
 use Prim.Native.Nat.{ℕ, zero, suc, _+_}
 use mathlib.Core.Bool.{Bool, cond, not}

@@ -1,4 +1,4 @@
--- Runs of ticks, both ends included, and when two of them meet: No. 3 of document 02. A run whose end lies before its start has no tick.
+-- Runs of ticks, both ends included, and when two of them meet: 'Sweeps of a motion' of docs/FORMATS.md. A run whose end lies before its start has no tick.
 -- Assumes nothing.
 use Prim.Native.Nat.{ℕ, _≤_, max, min}
 use mathlib.Core.Bool.{Bool}

@@ -1,4 +1,4 @@
--- The site file: cells, states and motions, read from bytes, and refusals 1 to 6.
+-- The site file: cells, states and motions, read from bytes, and refusals 1 to 6 ('Site file' of docs/FORMATS.md).
 -- Assumes nothing.
 use Prim.Native.Nat.{ℕ, zero, suc, _+_, _*_, _-_, _/_}
 use mathlib.Core.List.{List, [], _∷_, map}

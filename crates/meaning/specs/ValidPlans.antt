@@ -1,5 +1,5 @@
--- Valid plans, reached pairs, the arrival and the traced rule as relations, in the papers' words: 'Problem Statement' of SIPP-IP as
--- documents 01 and 02 give it. No test and no search stands in them.
+-- Valid plans, reached pairs, the arrival and the traced rule as relations, in the words of 'Valid plans' and 'Light' of docs/FORMATS.md,
+-- which follow the problem statement of SIPP-IP (Ali and Yakovlev). No test and no search stands in them.
 -- Assumes nothing.
 use Prim.Native.Nat.{ℕ, _+_, _≤_, _<_}
 use mathlib.Core.Path.{_≡_}

@@ -1,4 +1,4 @@
--- The answer of the travel call and what is returned: document 02's number and values for each case, and the case for these.
+-- The answer of the travel call and what is returned: the number and values of docs/FORMATS.md for each case, and the case for these.
 -- Assumes nothing.
 use Rattle.travel_runs.specs.Travel.{Returned}
 use Rattle.answers.specs.declared.Counted.{Counted}

@@ -1,4 +1,4 @@
--- What is meant of the travel call is what document 02 says in words.
+-- What is meant of the travel call is what 'Travel times' of docs/FORMATS.md says in words.
 -- Assumes nothing.
 use Prim.Native.Nat.{ℕ, _≤_, _<_}
 use mathlib.Core.Path.{_≡_, ap, _∙_}

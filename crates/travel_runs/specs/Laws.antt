@@ -13,8 +13,8 @@ pub record TravelRight : Type 1 where
   -- `fewest d` is the fewest ticks, for every distance, and nothing else is
   pub right : (d : ℕ) → Fewest d (fewest d)
   pub no-other : (d n : ℕ) → Fewest d n → n ≡ fewest d
-  -- the entries that document 02 names
+  -- entries that 'Travel times' of docs/FORMATS.md names
   pub named : (fewest 0 ≡ 0) × (fewest 1 ≡ 2) × (fewest 2 ≡ 3) × (fewest 3 ≡ 4) × (fewest 4 ≡ 4)
       × (fewest 225 ≡ 30) × (fewest 226 ≡ 31) × (fewest 511 ≡ 50)
-  -- a call that returns what is meant returns what document 02 says in words
+  -- a call that returns what is meant returns what is said in words
   pub demand : (desk : TravelDesk) → TravelExact desk → TravelDemand desk

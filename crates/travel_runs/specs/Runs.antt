@@ -1,4 +1,4 @@
--- Runs from rest to rest, and the fewest ticks that cover a distance: No. 4 of document 02, in its words and numerals.
+-- Runs from rest to rest, and the fewest ticks that cover a distance: 'Travel times' of docs/FORMATS.md, in its words and numerals.
 -- Assumes nothing.
 use Prim.Native.Nat.{ℕ, zero, suc, _+_, _≤_, _<_}
 use mathlib.Core.Path.{_≡_}

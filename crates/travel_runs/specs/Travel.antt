@@ -17,7 +17,7 @@ abbrev pub returnedBy : ℕ → ℕ → Returned
 returnedBy d zero = record { number = 0; values = fewest d ∷ [] }
 returnedBy d (suc n) = record { number = suc n; values = [] }
 
--- what document 02 says that a call with d returns
+-- what 'Travel times' of docs/FORMATS.md says that a call with d returns
 unfoldable pub travelMeant : ℕ → Returned
 travelMeant d = returnedBy d (lowest (travelRefusals d))
 

@@ -67,7 +67,7 @@ says (suc n) o = refused (suc n)
 unfoldable pub unloading : List ℕ → Node → ℕ → ℕ → Answer Route
 unloading board a goal dwell = says (called board (listed (route 7 a goal dwell)) .number) (decode (lightFor board a goal dwell))
 
--- the cases of document 01 have dwell 0
+-- the cases of 'Four in line' have dwell 0
 abbrev pub routed : List ℕ → Node → ℕ → Answer Route
 routed board a goal = unloading board a goal 0
 
@@ -119,7 +119,7 @@ lightOfDwell high low =
     ∷ 0x12 ∷ 0x00 ∷ 0x02 ∷ 0x00 ∷ 0x02
     ∷ []
 
--- the same with the head that document 01 gave it, without a dwell
+-- the same with a head of 13 bytes, as lights had it before there was a dwell
 abbrev pub lightOfNoDwell : List ℕ
 lightOfNoDwell =
     0x10 ∷ 0x00 ∷ 0x0D ∷ 0x00 ∷ 0x00 ∷ 0x00 ∷ 0x00 ∷ 0x07 ∷ 0x00 ∷ 0x00 ∷ 0x00 ∷ 0x00 ∷ 0x00 ∷ 0x04 ∷ 0x00 ∷ 0x05
@@ -231,7 +231,7 @@ pub record Starred : Type 0 where
   pub N-count : called boardN (interval 1) .values ≡ 2 ∷ []
   pub N-area : called boardN (interval 1) .lent .out ≡ (0 ∷ 3 ∷ 5 ∷ 12 ∷ []) ++ replicate 74 238
 
--- time at the dock: No. 2 of document 02
+-- time at the dock (request 2)
 pub record AtTheDock : Type 0 where
   pub B-dwell-2 : unloading boardB (node 0 0) 4 2 ≡ found (wait 5 ∷ move 0 ∷ move 1 ∷ move 2 ∷ []) 10
   pub B-dwell-3 : unloading boardB (node 0 0) 4 3 ≡ refused 18

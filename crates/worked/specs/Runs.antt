@@ -1,4 +1,4 @@
--- Runs of ticks that meet and that do not, and where a sweep of 'Four in line' uses its cell: No. 3 of document 02.
+-- Runs of ticks that meet and that do not, and where a sweep of 'Four in line' uses its cell: 'Sweeps of a motion' of docs/FORMATS.md.
 -- Assumes nothing.
 use mathlib.Core.Path.{_≡_}
 use mathlib.Core.Bool.{true, false}

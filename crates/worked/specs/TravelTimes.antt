@@ -1,5 +1,5 @@
--- Travel times: runs written out, how far few ticks get, and entries, among them those where the speed limit is first felt: No. 4 of
--- document 02.
+-- Travel times: runs written out, how far few ticks get, and entries, among them those where the speed limit is first felt: 'Travel times'
+-- of docs/FORMATS.md.
 -- Assumes nothing.
 use Prim.Native.Nat.{ℕ}
 use mathlib.Core.Path.{_≡_}

@@ -1,0 +1,197 @@
+//! docs/FORMATS.md: its bytes are those of the desk, its numbers those of the header and of the Rust package, and its links lead somewhere.
+
+#![cfg(not(feature = "standin"))]
+
+use dispatch::{Desk, Refusal, Sizes, Trip};
+use dispatch_tests::docs::{block, bytes, header_numbers, table, text};
+use dispatch_tests::gen::{self, CALLS};
+use dispatch_tests::{c, four};
+use std::fs;
+use std::path::{Path, PathBuf};
+use std::process::Command;
+
+fn formats() -> String {
+    text("docs/FORMATS.md")
+}
+
+fn hex(mark: &str) -> Vec<u8> {
+    bytes(&block(&formats(), "hex", mark))
+}
+
+#[test]
+fn whole_site_file() {
+    let file = hex("# head: H 12, C 4, S 5");
+    assert_eq!(file, fs::read(c::root().join("crates/day/data/site.bin")).unwrap());
+    assert_eq!(file, four::bytes());
+    assert_eq!(file.len(), 100);
+}
+
+#[test]
+fn script_light_and_board() {
+    let script = hex("# close: closure 200");
+    assert_eq!(script, fs::read(c::root().join("crates/day/stdin")).unwrap());
+    assert_eq!(script.len(), 24);
+    let mut desk = Desk::open(&hex("# head: H 12, C 4, S 5")).unwrap();
+    desk.close(200, 3, 0..=8).unwrap();
+    let granted = desk.route(Trip { tug: 7, start: 0, tick: 0, goal: 4, dwell: 0 }).unwrap();
+    let light = hex("# head: edition 1, tug 7");
+    assert_eq!((granted.light, granted.arrival), (light.clone(), 10));
+    assert_eq!(light.len(), 38);
+    desk.post(&light).unwrap();
+    assert_eq!(desk.board(), hex("# edition 2"));
+}
+
+/// The command that turns a text into a file, run as it is printed, in a folder of its own: on the worked hall, and on every byte there is.
+#[test]
+fn command_that_makes_a_file() {
+    let command = block(&formats(), "bash", "hall.hex");
+    let folder = Path::new(env!("CARGO_TARGET_TMPDIR")).join("make");
+    let _ = fs::remove_dir_all(&folder);
+    fs::create_dir_all(&folder).unwrap();
+    let every: String = (0..=255).map(|byte| format!("{byte:02x}\t# {byte}\r\n")).collect();
+    let every_bytes: Vec<u8> = (0..=255).collect();
+    let worked = block(&formats(), "hex", "# head: H 12, C 4, S 5");
+    for (source, wanted) in [(worked, four::bytes()), (every, every_bytes)] {
+        fs::write(folder.join("hall.hex"), source).unwrap();
+        let done = Command::new("bash").args(["-c", &command]).current_dir(&folder).status().unwrap();
+        assert!(done.success());
+        assert_eq!(fs::read(folder.join("site.bin")).unwrap(), wanted);
+    }
+}
+
+/// `STALE_LIGHT` as `StaleLight`.
+fn in_rust(name: &str) -> String {
+    name.split('_').map(|word| word[..1].to_string() + &word[1..].to_lowercase()).collect()
+}
+
+/// Number, name and text are the same in the header, in the Rust package and in the table here, and there are no others.
+#[test]
+fn numbers() {
+    let header = header_numbers();
+    assert_eq!((header[0].name.as_str(), header[0].number, header[0].text.as_str()), ("ACCEPTED", 0, "accepted"));
+    let numbers: Vec<u8> = header.iter().map(|entry| entry.number).collect();
+    assert_eq!(numbers, (0..=19).collect::<Vec<u8>>());
+    let in_package: Vec<(u8, String, &str)> = Refusal::ALL.iter().map(|refusal| (refusal.number(), format!("{refusal:?}"), refusal.text())).collect();
+    let in_header: Vec<(u8, String, &str)> = header[1..].iter().map(|entry| (entry.number, in_rust(&entry.name), entry.text.as_str())).collect();
+    assert_eq!(in_package, in_header);
+    let rows = table(&formats(), "| number | name | what it says | when, and what to do |");
+    let in_table: Vec<(u8, String, &str)> = rows.iter().map(|row| (row[0].parse().unwrap(), in_rust(row[1].trim_matches('`')), row[2].as_str())).collect();
+    assert_eq!(in_table, in_header);
+    assert!(rows.iter().all(|row| row.len() == 4 && row[3].ends_with('.')), "each number says what to do");
+}
+
+/// The numbers of each call are those that the comparison with the independent programs expects, and finds.
+#[test]
+fn numbers_of_each_call() {
+    let rows = table(&formats(), "| call | numbers, in the order in which they are asked |");
+    assert_eq!(rows.len(), CALLS.len() + 1);
+    for (kind, (row, name)) in rows.iter().zip(CALLS).enumerate() {
+        let possible: Vec<u8> = gen::possible().into_iter().filter(|&(of, number)| of == kind && number != 0).map(|pair| pair.1).collect();
+        let listed: Vec<u8> = row[1].split(' ').map(|number| number.parse().unwrap()).collect();
+        assert_eq!((row[0].as_str(), listed), (name, possible));
+    }
+    assert_eq!(rows[CALLS.len()], ["travel", "19"]);
+}
+
+/// The largest areas, as the table has them.
+#[test]
+fn largest_areas() {
+    let most = Sizes { horizon: 1_000, cells: 255, states: 256 };
+    let rows = table(&formats(), "| area | elements | how many |");
+    let said = |area: &str| rows.iter().find(|row| row[0] == area).unwrap_or_else(|| panic!("no row {area}"))[2].replace(',', "");
+    for (area, needed) in [
+        ("board", most.board_bytes()),
+        ("route's output", most.light_bytes()),
+        ("route's working area", most.work_words()),
+        ("interval's numbers", most.interval_numbers()),
+    ] {
+        assert!(said(area).contains(&format!("at most {needed}")), "{area}: {needed}");
+    }
+}
+
+/// The heading's name in a link.
+fn anchor(heading: &str) -> String {
+    let plain = heading.trim_start_matches('#').trim().to_lowercase();
+    plain.chars().filter(|c| c.is_alphanumeric() || *c == ' ' || *c == '-').map(|c| if c == ' ' { '-' } else { c }).collect()
+}
+
+/// Each link of the documents leads to a file or a heading that is there.
+#[test]
+fn links() {
+    let mut seen = 0;
+    for document in ["README.md", "docs/FORMATS.md", "docs/PROMISES.md", "docs/DECISIONS.md", "tests/README.md"] {
+        let text = text(document);
+        let headings: Vec<String> = text.lines().filter(|line| line.starts_with('#')).map(anchor).collect();
+        for target in text.split("](").skip(1).map(|rest| rest.split(')').next().unwrap()) {
+            seen += 1;
+            match target.split_once('#') {
+                Some(("", heading)) => assert!(headings.iter().any(|known| known == heading), "{document} links to {target}"),
+                _ => assert!(c::root().join(document).parent().unwrap().join(target).exists(), "{document} links to {target}"),
+            }
+        }
+    }
+    assert!(seen >= 20, "only {seen} links");
+}
+
+/// The files of a folder and of those below it, but for target/.
+fn files(folder: &Path, found: &mut Vec<PathBuf>) {
+    for path in fs::read_dir(folder).unwrap().map(|entry| entry.unwrap().path()) {
+        if path.is_dir() && path.file_name().unwrap() != "target" {
+            files(&path, found);
+        } else if path.is_file() {
+            found.push(path);
+        }
+    }
+}
+
+/// The sections that a source cites, as `'Board' of docs/FORMATS.md` or `'Valid plans' and 'Light' of docs/FORMATS.md`, over the ends of lines too.
+fn cited(source: &str) -> Vec<String> {
+    let joined: Vec<&str> = source.split_whitespace().filter(|word| !matches!(*word, "--" | "//" | "//!" | "///" | "*")).collect();
+    let joined = joined.join(" ");
+    let mut sections = Vec::new();
+    for (at, _) in joined.match_indices("' of docs/FORMATS.md") {
+        let mut before = &joined[..at];
+        loop {
+            let (rest, section) = before.rsplit_once('\'').unwrap();
+            sections.push(section.to_string());
+            match rest.strip_suffix("' and ") {
+                Some(rest) => before = rest,
+                None => break,
+            }
+        }
+    }
+    sections
+}
+
+/// Comments cite sections of docs/FORMATS.md that are there, and nothing that is not in the repository.
+#[test]
+fn citations() {
+    assert_eq!(cited("-- as 'A b' and\n-- 'C' of docs/FORMATS.md, 'D' and 'E' of\n// docs/FORMATS.md"), ["C", "A b", "E", "D"]);
+    let headings: Vec<String> = formats().lines().filter(|line| line.starts_with('#')).map(|line| line.trim_start_matches(['#', ' ']).to_string()).collect();
+    let mut found = Vec::new();
+    for folder in ["crates", "tests", "bindings", "include"] {
+        files(&c::root().join(folder), &mut found);
+    }
+    let mut seen = 0;
+    for path in found.iter().filter(|path| path.extension().is_some_and(|kind| ["antt", "rt", "rs", "h", "edit"].iter().any(|known| kind == *known))) {
+        let source = fs::read_to_string(path).unwrap();
+        for section in cited(&source).iter().filter(|_| !path.ends_with("formats.rs")) {
+            seen += 1;
+            assert!(headings.contains(section), "{} cites {section}", path.display());
+        }
+        assert!(!source.contains(concat!("document", " 0")), "{} cites a paper that is not here", path.display());
+    }
+    assert!(seen >= 20, "only {seen} citations");
+}
+
+/// Each path of the repository that the header names is there.
+#[test]
+fn paths_of_the_header() {
+    let header = text("include/dispatch.h");
+    let words = header.split(|c: char| c.is_whitespace() || c == ',' || c == ';').map(|word| word.trim_end_matches(['.', ':']));
+    let paths: Vec<&str> = words.filter(|word| word.starts_with("crates/") || word.starts_with("docs/")).collect();
+    assert!(paths.len() >= 3, "{paths:?}");
+    for path in paths {
+        assert!(c::root().join(path).exists(), "the header names {path}");
+    }
+}
