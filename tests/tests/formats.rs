@@ -119,7 +119,7 @@ fn anchor(heading: &str) -> String {
 #[test]
 fn links() {
     let mut seen = 0;
-    for document in ["README.md", "docs/FORMATS.md", "docs/PROMISES.md", "docs/DECISIONS.md", "tests/README.md"] {
+    for document in ["README.md", "docs/FORMATS.md", "docs/PROMISES.md", "docs/DECISIONS.md", "tests/README.md", "bindings/rust/README.md"] {
         let text = text(document);
         let headings: Vec<String> = text.lines().filter(|line| line.starts_with('#')).map(anchor).collect();
         for target in text.split("](").skip(1).map(|rest| rest.split(')').next().unwrap()) {
