@@ -4,7 +4,9 @@
 //! - `plain`: an independent program for the seven calls on a site, with a fast timestep search.
 //! - `travel`: an independent program for the eighth, the travel times.
 //! - `literal`: the rules of docs/FORMATS.md, written as they read and slow.
+//! - `literal_desk`: the seven calls on a site, on `literal`, over a board of any bytes.
 //! - `plain_board`: the plain board of docs/FORMATS.md, on `literal`.
+//! - `lent`: what is lent to a call, and the call made with any of these programs.
 //! - `gen`: seeded sites, boards, lights and calls.
 //! - `day`: what the day program must print.
 //! - `c`: programs in C and C++ over the archive.
@@ -16,7 +18,9 @@ pub mod desk;
 pub mod docs;
 pub mod four;
 pub mod gen;
+pub mod lent;
 pub mod literal;
+pub mod literal_desk;
 pub mod plain;
 pub mod plain_board;
 #[cfg(feature = "standin")]
