@@ -7,6 +7,7 @@
 //! - `literal_desk`: the seven calls on a site, on `literal`, over a board of any bytes.
 //! - `plain_board`: the plain board of docs/FORMATS.md, on `literal`.
 //! - `lent`: what is lent to a call, and the call made with any of these programs.
+//! - `guarded`: areas between pages that nothing may touch.
 //! - `gen`: seeded sites, boards, lights and calls.
 //! - `day`: what the day program must print.
 //! - `c`: programs in C and C++ over the archive.
@@ -18,6 +19,8 @@ pub mod desk;
 pub mod docs;
 pub mod four;
 pub mod gen;
+#[cfg(target_os = "linux")]
+pub mod guarded;
 pub mod lent;
 pub mod literal;
 pub mod literal_desk;
