@@ -1,0 +1,211 @@
+//! Bytes worked out by hand from the numbers of document 01 and of request 2, field by field, against the tests' own encoder and reader, the day program's
+//! data and the desk. What the desk's routes answer on 'Four in line' stands in `worked.rs`, and what the day program prints in `day.rs`.
+
+use dispatch_tests::desk::{self, Answer};
+use dispatch_tests::literal::{encode, fields, number, put, Light, Motion, Site, State, Step, Sweep};
+use dispatch_tests::plain_board::PlainBoard;
+use dispatch_tests::{c, day, four};
+use std::fs;
+
+/// Fields in hexadecimal, each with what it says.
+type Fields = [(&'static str, &'static str)];
+
+fn bytes(fields: &Fields) -> Vec<u8> {
+    fields.iter().flat_map(|field| four::hex(field.0)).collect()
+}
+
+/// Compares field by field, so that a failure names what differs.
+fn same(got: &[u8], wanted: &Fields, what: &str) {
+    let mut rest = got;
+    for (text, says) in wanted {
+        let field = four::hex(text);
+        let (first, later) = rest.split_at(field.len().min(rest.len()));
+        assert_eq!(first, field, "{what}: {says}");
+        rest = later;
+    }
+    assert!(rest.is_empty(), "{what} has {} bytes too many", rest.len());
+}
+
+fn file(name: &str) -> Vec<u8> {
+    fs::read(c::root().join("crates/day").join(name)).unwrap()
+}
+
+/// The site file of 'Four in line'.
+#[rustfmt::skip]
+const SITE: [(&str, &str); 33] = [
+    ("01 0005", "head, 5 bytes"), ("000C", "H 12"), ("04", "4 cells"), ("0005", "5 states"),
+    ("02 0002", "state 0, 2 bytes"), ("00 00", "cell 0, standing"),
+    ("02 0002", "state 1, 2 bytes"), ("01 01", "cell 1, speed 1"),
+    ("02 0002", "state 2, 2 bytes"), ("01 00", "cell 1, standing"),
+    ("02 0002", "state 3, 2 bytes"), ("02 01", "cell 2, speed 1"),
+    ("02 0002", "state 4, 2 bytes"), ("03 00", "cell 3, standing"),
+    ("03 000B", "motion 0, 5 bytes and 2 sweeps of 3"), ("0000 0001 02", "from 0 to 1, span 2"),
+    ("00 00 01", "cell 0 at 0 to 1"), ("01 01 02", "cell 1 at 1 to 2"),
+    ("03 000B", "motion 1, 5 bytes and 2 sweeps of 3"), ("0001 0003 01", "from 1 to 3, span 1"),
+    ("01 00 01", "cell 1 at 0 to 1"), ("02 01 01", "cell 2 at 1 to 1"),
+    ("03 000B", "motion 2, 5 bytes and 2 sweeps of 3"), ("0003 0004 02", "from 3 to 4, span 2"),
+    ("02 00 01", "cell 2 at 0 to 1"), ("03 01 02", "cell 3 at 1 to 2"),
+    ("03 0008", "motion 3, 5 bytes and 1 sweep of 3"), ("0001 0002 02", "from 1 to 2, span 2"),
+    ("01 00 02", "cell 1 at 0 to 2"),
+    ("03 000B", "motion 4, 5 bytes and 2 sweeps of 3"), ("0002 0003 02", "from 2 to 3, span 2"),
+    ("01 00 01", "cell 1 at 0 to 1"), ("02 01 02", "cell 2 at 1 to 2"),
+];
+
+/// The worked script.
+#[rustfmt::skip]
+const SCRIPT: [(&str, &str); 11] = [
+    ("20 0006", "close, 6 bytes"), ("C8", "closure 200"), ("03", "cell 3"), ("0000", "from tick 0"), ("0008", "to tick 8"),
+    ("22 0009", "route, 9 bytes"), ("07", "tug 7"), ("0000 0000", "from state 0 at tick 0"), ("0004", "to state 4"), ("0000", "dwell 0"),
+    ("23 0000", "post, no bytes"),
+];
+
+/// B's light, made from edition 1, behind one closure.
+#[rustfmt::skip]
+const B: [(&str, &str); 10] = [
+    ("10 000F", "head, 15 bytes"), ("00000001", "edition 1"), ("07", "tug 7"), ("0000 0000", "from state 0 at tick 0"), ("0004", "to state 4"),
+    ("000A 0000", "arrival 10, dwell 0"),
+    ("11 0002 0005", "wait 5"),
+    ("12 0002 0000", "motion 0, from 5 to 7"), ("12 0002 0001", "motion 1, from 7 to 8"), ("12 0002 0002", "motion 2, from 8 to 10"),
+];
+
+/// A's light with dwell 2.
+#[rustfmt::skip]
+const A_DWELL_2: [(&str, &str); 9] = [
+    ("10 000F", "head, 15 bytes"), ("00000000", "edition 0"), ("07", "tug 7"), ("0000 0000", "from state 0 at tick 0"), ("0004", "to state 4"),
+    ("0005 0002", "arrival 5, dwell 2"),
+    ("12 0002 0000", "motion 0, from 0 to 2"), ("12 0002 0001", "motion 1, from 2 to 3"), ("12 0002 0002", "motion 2, from 3 to 5"),
+];
+
+/// The board behind closure 200 on cell 3 from 0 to 8, and B's light.
+#[rustfmt::skip]
+const BOARD: [(&str, &str); 13] = [
+    ("00000002", "edition 2"),
+    ("07 07 07 07 07 07", "cell 0 at 0 to 5: the wait"), ("07", "cell 0 at 6: motion 0"), ("00 00 00 00 00 00", "cell 0 at 7 to 12"),
+    ("00 00 00 00 00 00", "cell 1 at 0 to 5"), ("07 07 07", "cell 1 at 6 to 8: motions 0 and 1"), ("00 00 00 00", "cell 1 at 9 to 12"),
+    ("00 00 00 00 00 00 00 00", "cell 2 at 0 to 7"), ("07 07", "cell 2 at 8 and 9: motions 1 and 2"), ("00 00 00", "cell 2 at 10 to 12"),
+    ("C8 C8 C8 C8 C8 C8 C8 C8 C8", "cell 3 at 0 to 8: closure 200"), ("07 07", "cell 3 at 9 and 10: motion 2"), ("00 00", "cell 3 at 11 and 12"),
+];
+
+#[test]
+fn site_file() {
+    same(&four::bytes(), &SITE, "the encoder's file");
+    assert_eq!(Site::read(&bytes(&SITE)), Ok(four::site()));
+    same(&file("data/site.bin"), &SITE, "crates/day/data/site.bin");
+    assert_eq!(file("data/site.bin"), four::bytes());
+}
+
+/// That the script is the one made with `put` stands in `day.rs`, `worked_example`.
+#[test]
+fn script_and_lines() {
+    let script = file("stdin");
+    same(&script, &SCRIPT, "crates/day/stdin");
+    let wanted: [(u8, &[u8]); 3] = [(32, &[200, 3, 0, 0, 0, 8]), (34, &[7, 0, 0, 0, 0, 0, 4, 0, 0]), (35, &[])];
+    assert_eq!(fields(&script).unwrap(), wanted);
+    let lines = "0 1 0\n0 1 10\n0 2 0\n";
+    assert_eq!(String::from_utf8(file("stdout")).unwrap(), lines, "crates/day/stdout");
+    assert_eq!(day::transcript(Some(&bytes(&SITE)), &bytes(&SCRIPT)), lines);
+}
+
+/// That the desk's routes give these lights stands in `worked.rs`, `b_late_departure` and `posted_dwell_is_held`.
+#[test]
+fn lights() {
+    let moves = [0, 1, 2].map(Step::Move);
+    let a = Light { edition: 0, tug: 7, start: 0, tick: 0, goal: 4, arrival: 5, dwell: 2, steps: moves.to_vec() };
+    let b = Light { edition: 1, arrival: 10, dwell: 0, steps: [vec![Step::Wait(5)], moves.to_vec()].concat(), ..a.clone() };
+    for (light, wanted, what) in [(a, &A_DWELL_2[..], "A's light with dwell 2"), (b, &B[..], "B's light")] {
+        same(&light.encode(), wanted, what);
+        assert_eq!(Light::read(&bytes(wanted)), Some(light), "{what}");
+    }
+    same(&four::hex(four::B_LIGHT), &B, "the light of document 01");
+}
+
+/// The rows of this board, by what the desk's post leaves, stand in `worked.rs`, `k_posted_twice`, too.
+#[test]
+fn posted_board() {
+    let (site, mut board, mut model) = (bytes(&SITE), vec![9; bytes(&BOARD).len()], PlainBoard::new(four::site()));
+    assert_eq!(desk::open(&site, &mut board), Answer::plain(0));
+    assert_eq!(desk::close(&site, &mut board, 200, 3, 0, 8), Answer::plain(0));
+    assert_eq!(desk::post(&site, &mut board, &bytes(&B)), Answer::plain(0));
+    same(&board, &BOARD, "the desk's board");
+    assert_eq!((model.close(200, 3, 0, 8), model.post(&bytes(&B))), (Answer::plain(0), Answer::plain(0)));
+    same(&model.bytes(), &BOARD, "the plain board");
+}
+
+/// Numbers above 255 from here on, so that a byte in the wrong place shows. Two cells; the states 0 to 254 stand in cell 0, state 255 in cell 1. Motion 258
+/// alone leads from state 255 to state 0; 599 others lead from 0 to 255, motion 513 among them, whose number has the same bytes.
+fn wide() -> Site {
+    let motion = |from, to, cells: [u8; 2]| {
+        let sweeps = vec![Sweep { cell: cells[0], a: 0, b: 1 }, Sweep { cell: cells[1], a: 1, b: 1 }];
+        Motion { from, to, d: 1, sweeps }
+    };
+    let mut motions = vec![motion(0, 255, [0, 1]); 600];
+    motions[258] = motion(255, 0, [1, 0]);
+    let mut states = vec![State { cell: 0, speed: 0 }; 256];
+    states[255].cell = 1;
+    Site { h: 1_000, c: 2, states, motions }
+}
+
+/// The file of that site: H 1,000, 2 cells, 256 states; then the states and the motions.
+fn wide_bytes() -> Vec<u8> {
+    let forth = "03 000B 0000 00FF 01, 00 00 01, 01 01 01 ";
+    let back = "03 000B 00FF 0000 01, 01 00 01, 00 01 01 ";
+    let states = "02 0002 00 00 ".repeat(255) + "02 0002 01 00 ";
+    four::hex(&format!("01 0005 03E8 02 0100 {states} {} {back} {}", forth.repeat(258), forth.repeat(600 - 259)))
+}
+
+/// Edition 16,909,060, tug 7, from state 255 at 261 to state 0, arrival 521, dwell 300; wait 259, motion 258.
+const WIDE_LIGHT: &str = "10 000F 01020304 07 00FF 0105 0000 0209 012C, 11 0002 0103, 12 0002 0102";
+
+#[test]
+fn wide_site() {
+    let (site, file) = (wide(), wide_bytes());
+    assert_eq!(file.len(), 8 + 256 * 5 + 600 * 14);
+    assert!(encode(&site) == file, "the encoder's file");
+    assert_eq!(Site::read(&file), Ok(site));
+    assert_eq!(desk::open(&file, &mut vec![9; 4 + 2 * 1_001]), Answer::plain(0));
+    // 256 for 0, as motion 0's from and as motion 258's to. With its bytes in the other order it would be 1, a state in the same cell.
+    for (motion, at) in [(0, 0), (258, 2)] {
+        let mut changed = file.clone();
+        changed[8 + 256 * 5 + motion * 14 + 3 + at..][..2].copy_from_slice(&four::hex("0100"));
+        assert_eq!(Site::read(&changed), Err(6));
+        assert_eq!(desk::open(&changed, &mut vec![9; 4 + 2 * 1_001]), Answer::plain(6));
+    }
+}
+
+/// No byte twice. Such numbers are too large for any site, but not for the layout.
+#[test]
+fn distinct_bytes() {
+    let steps = vec![Step::Wait(0x1011), Step::Move(0x1213)];
+    let light = Light { edition: 0x0102_0304, tug: 5, start: 0x0607, tick: 0x0809, goal: 0x0a0b, arrival: 0x0c0d, dwell: 0x0e0f, steps };
+    let bytes = four::hex("10 000F 01020304 05 0607 0809 0A0B 0C0D 0E0F, 11 0002 1011, 12 0002 1213");
+    assert_eq!(light.encode(), bytes);
+    assert_eq!(Light::read(&bytes), Some(light));
+    let motions = vec![Motion { from: 0x0102, to: 0x0304, d: 5, sweeps: vec![Sweep { cell: 6, a: 7, b: 8 }] }];
+    let site = Site { h: 0x090a, c: 11, states: vec![State { cell: 12, speed: 13 }], motions };
+    assert_eq!(encode(&site), four::hex("01 0005 090A 0B 0001, 02 0002 0C 0D, 03 0008 0102 0304 05, 06 07 08"));
+    let mut field = Vec::new();
+    put(&mut field, 9, &[7; 0x0102]);
+    assert_eq!(field, four::hex(&format!("09 0102 {}", "07".repeat(258))));
+    assert_eq!(fields(&field), Some(vec![(9, &[7; 258][..])]));
+    assert_eq!(number(&[1, 2, 3, 4]), 16_909_060);
+}
+
+/// Cell 0 is held until 520, so the tug waits from 261 to 520; motion 258 takes it there at 521, and it unloads until 821.
+#[test]
+fn wide_route() {
+    let file = wide_bytes();
+    let row = |parts: [(u8, usize); 3]| parts.map(|(byte, n)| vec![byte; n]).concat();
+    let mut board = [four::hex("01020304"), row([(0xc8, 521), (0, 301), (0, 179)]), vec![0; 1_001]].concat();
+    let (mut out, mut work) = (vec![9; 5_018], vec![9; 256 * 1_001]);
+    let light = four::hex(WIDE_LIGHT);
+    let steps = vec![Step::Wait(259), Step::Move(258)];
+    let read = Light { edition: 16_909_060, tug: 7, start: 255, tick: 261, goal: 0, arrival: 521, dwell: 300, steps };
+    assert_eq!((read.encode(), Light::read(&light)), (light.clone(), Some(read)));
+    let answer = desk::route(&file, &board, 7, 255, 261, 0, 300, &mut out, &mut work);
+    assert_eq!(answer, Answer { number: 0, value: 28, arrival: 521 });
+    assert_eq!(out[..28], light);
+    assert_eq!(desk::audit(&file, &board, &light), Answer::plain(0));
+    assert_eq!(desk::post(&file, &mut board, &light), Answer::plain(0));
+    let wanted = [four::hex("01020305"), row([(0xc8, 521), (7, 301), (0, 179)]), row([(0, 261), (7, 261), (0, 479)])].concat();
+    assert!(board == wanted, "the board behind the light");
+}
