@@ -1,6 +1,6 @@
 //! What the documents and the header say, for the tests that compare it with what is so.
 
-use crate::c;
+use crate::{c, four};
 use std::fs;
 
 /// A file of the repository, as text.
@@ -24,9 +24,9 @@ pub fn block(document: &str, kind: &str, mark: &str) -> String {
 /// The bytes of a text in hexadecimal digits; what stands behind # in a line is a remark.
 pub fn bytes(hex: &str) -> Vec<u8> {
     let plain: String = hex.lines().map(|line| line.split('#').next().unwrap()).collect();
-    let digits: Vec<u8> = plain.chars().filter(|c| !c.is_whitespace()).map(|c| c.to_digit(16).unwrap_or_else(|| panic!("{c} in {hex}")) as u8).collect();
-    assert_eq!(digits.len() % 2, 0, "half a byte in {hex}");
-    digits.chunks(2).map(|pair| pair[0] * 16 + pair[1]).collect()
+    let digits: String = plain.chars().filter(|c| !c.is_whitespace()).collect();
+    assert!(digits.chars().all(|c| c.is_ascii_hexdigit()) && digits.len() % 2 == 0, "no bytes: {hex}");
+    four::hex(&digits)
 }
 
 /// The cells of the table that has this first row, row by row.

@@ -4,9 +4,10 @@
 
 use dispatch_tests::desk::{self, Answer};
 use dispatch_tests::gen::{self, Call, Caller, Rng, Size, CALLS};
+use dispatch_tests::lent::{self, Area, Values};
 use dispatch_tests::literal::{encode, with_head, Light, Site, Step, MAX_DWELL};
-use dispatch_tests::plain;
 use dispatch_tests::plain_board::PlainBoard;
+use dispatch_tests::{plain, run};
 use std::collections::BTreeMap;
 use std::io::Write;
 use std::time::Instant;
@@ -17,70 +18,47 @@ const GUARD: usize = 32;
 /// How often each thing that is counted must occur in a run that is long enough.
 const OFTEN: usize = 20;
 
-/// What is lent to a call: the site file, the board, the light and the areas, each with a guard on both sides.
+/// An area with a guard on both sides, which is compared too.
 #[derive(Clone, PartialEq)]
-struct Lent {
-    site: Vec<u8>,
-    board: Vec<u8>,
-    light: Vec<u8>,
-    bytes: Vec<u8>,
-    numbers: Vec<u16>,
-    words: Vec<u32>,
-}
+struct Fenced<T>(Vec<T>);
 
-fn guarded(rng: &mut Rng, inner: &[u8]) -> Vec<u8> {
-    let mut all = rng.bytes(GUARD);
-    all.extend(inner);
-    all.extend(rng.bytes(GUARD));
-    all
-}
-
-fn inner<T>(all: &[T]) -> &[T] {
-    &all[GUARD..all.len() - GUARD]
-}
-
-fn inner_mut<T>(all: &mut [T]) -> &mut [T] {
-    let end = all.len() - GUARD;
-    &mut all[GUARD..end]
-}
-
-impl Lent {
-    /// The areas hold any bytes before the call.
-    fn new(rng: &mut Rng, site: &[u8], board: &[u8], call: &Call) -> Lent {
-        let (mut bytes, mut numbers, mut words) = (0, 0, 0);
-        let mut light: &[u8] = &[];
-        match call {
-            Call::Interval { out, .. } => numbers = *out,
-            Call::Route { out, work, .. } => (bytes, words) = (*out, *work),
-            Call::Audit { light: given } | Call::Post { light: given } => light = given,
-            _ => {}
-        }
-        Lent {
-            site: guarded(rng, site),
-            board: guarded(rng, board),
-            light: guarded(rng, light),
-            bytes: rng.bytes(bytes + 2 * GUARD),
-            numbers: (0..numbers + 2 * GUARD).map(|_| rng.draw() as u16).collect(),
-            words: (0..words + 2 * GUARD).map(|_| rng.draw() as u32).collect(),
-        }
+impl<T> Fenced<T> {
+    fn new(inner: &[T], mut draw: impl FnMut() -> T) -> Fenced<T>
+    where
+        T: Clone,
+    {
+        let mut all: Vec<T> = (0..GUARD).map(|_| draw()).collect();
+        all.extend_from_slice(inner);
+        all.extend((0..GUARD).map(|_| draw()));
+        Fenced(all)
     }
 }
 
-macro_rules! run {
-    ($program:ident, $call:expr, $lent:expr) => {{
-        let lent: &mut Lent = $lent;
-        match *$call {
-            Call::Open => $program::open(inner(&lent.site), inner_mut(&mut lent.board)),
-            Call::Interval { cell, .. } => $program::interval(inner(&lent.site), inner(&lent.board), cell, inner_mut(&mut lent.numbers)),
-            Call::Route { tug, start, tick, goal, dwell, .. } => {
-                $program::route(inner(&lent.site), inner(&lent.board), tug, start, tick, goal, dwell, inner_mut(&mut lent.bytes), inner_mut(&mut lent.words))
-            }
-            Call::Audit { .. } => $program::audit(inner(&lent.site), inner(&lent.board), inner(&lent.light)),
-            Call::Post { .. } => $program::post(inner(&lent.site), inner_mut(&mut lent.board), inner(&lent.light)),
-            Call::Close { holder, cell, first, last } => $program::close(inner(&lent.site), inner_mut(&mut lent.board), holder, cell, first, last),
-            Call::Withdraw { holder } => $program::withdraw(inner(&lent.site), inner_mut(&mut lent.board), holder),
-        }
-    }};
+impl<T> Area<T> for Fenced<T> {
+    fn all(&self) -> &[T] {
+        &self.0[GUARD..self.0.len() - GUARD]
+    }
+
+    fn all_mut(&mut self) -> &mut [T] {
+        let end = self.0.len() - GUARD;
+        &mut self.0[GUARD..end]
+    }
+}
+
+/// What is lent to a call: the site file, the board, the light and the areas, each with its guards.
+type Lent = lent::Lent<Fenced<u8>, Fenced<u16>, Fenced<u32>>;
+
+/// The areas hold any bytes before the call.
+fn lend(rng: &mut Rng, site: &[u8], board: &[u8], call: &Call) -> Lent {
+    let values = Values::new(rng, site, board, call);
+    Lent {
+        site: Fenced::new(&values.site, || rng.draw() as u8),
+        board: Fenced::new(&values.board, || rng.draw() as u8),
+        light: Fenced::new(&values.light, || rng.draw() as u8),
+        bytes: Fenced::new(&values.bytes, || rng.draw() as u8),
+        numbers: Fenced::new(&values.numbers, || rng.draw() as u16),
+        words: Fenced::new(&values.words, || rng.draw() as u32),
+    }
 }
 
 struct Tally {
@@ -137,14 +115,14 @@ const DOCKS: [Dock; 17] = {
 
 /// What a call shows of the time at the dock: its answer beside the plain program's for other dwells. A refused site file shows nothing.
 fn docks(call: &Call, answer: &Answer, before: &Lent, left: &Lent) -> Vec<Dock> {
-    let (file, board) = (inner(&before.site), inner(&before.board));
+    let (file, board) = (before.site.all(), before.board.all());
     let seen = match call {
         &Call::Route { tug, start, tick, goal, dwell, out, work } if dwell > 0 => {
             let Ok(site) = Site::read(file) else { return vec![] };
             let none = plain::route(file, board, tug, start, tick, goal, 0, &mut vec![0; out], &mut vec![0; work]);
             let until = |arrival: u32| arrival as usize + dwell as usize;
             let (granted, lost) = (answer.number == 0, answer.number == 18 && none.number == 0);
-            let steps = || Light::read(&inner(&left.bytes)[..answer.value as usize]).unwrap().steps;
+            let steps = || Light::read(&left.bytes.all()[..answer.value as usize]).unwrap().steps;
             let returns = || steps().iter().any(|step| matches!(step, Step::Move(k) if site.motions[*k as usize].from == goal));
             vec![
                 (Dock::RouteGranted, granted),
@@ -186,7 +164,7 @@ fn docks(call: &Call, answer: &Answer, before: &Lent, left: &Lent) -> Vec<Dock> 
 impl Tally {
     /// Runs one call with the desk and with the plain program, and compares everything. Gives what was left.
     fn compare(&mut self, rng: &mut Rng, site: &[u8], board: &[u8], call: &Call) -> (Answer, Lent) {
-        let before = Lent::new(rng, site, board, call);
+        let before = lend(rng, site, board, call);
         let (mut left, mut wanted) = (before.clone(), before.clone());
         let answer = run!(desk, call, &mut left);
         let expected = run!(plain, call, &mut wanted);
@@ -230,7 +208,7 @@ impl Tally {
                 let (_, left) = self.compare(rng, &file, &board, &call);
                 // A changed board serves further calls, but an opened one is dull.
                 if !matches!(call, Call::Open) {
-                    board = inner(&left.board).to_vec();
+                    board = left.board.all().to_vec();
                 }
             }
         }
@@ -282,18 +260,18 @@ impl Tally {
         let file = encode(&site);
         let garbage = rng.bytes(site.board_len());
         let (_, left) = self.compare(rng, &file, &garbage, &Call::Open);
-        let mut board = inner(&left.board).to_vec();
+        let mut board = left.board.all().to_vec();
         let mut model = PlainBoard::new(site.clone());
         let mut caller = Caller { site: &site, file: &file, lights: vec![] };
         for _ in 0..rng.pick(&[0, 1, 5, 20, 40, 80]) {
             let call = caller.listed(rng, &board);
             let (answer, left) = self.compare(rng, &file, &board, &call);
-            board = inner(&left.board).to_vec();
+            board = left.board.all().to_vec();
             let wanted = match call {
                 Call::Route { tug, start, tick, goal, dwell, out, work } => {
                     let (wanted, light) = model.route(tug, start, tick, goal, dwell, out, work);
                     if wanted.number == 0 {
-                        assert_eq!(inner(&left.bytes)[..light.len()], light, "seed {}, call {}: the light of the plain board", self.seed, self.calls);
+                        assert_eq!(left.bytes.all()[..light.len()], light, "seed {}, call {}: the light of the plain board", self.seed, self.calls);
                         caller.lights.push(light);
                     }
                     wanted

@@ -1,4 +1,4 @@
-//! Bytes worked out by hand from the numbers of document 01 and of request 2, field by field, against the tests' own encoder and reader, the day program's
+//! Bytes worked out by hand, field by field, from the numbers of the worked hall and the layouts of docs/FORMATS.md, against the tests' own encoder and reader, the day program's
 //! data and the desk. What the desk's routes answer on 'Four in line' stands in `worked.rs`, and what the day program prints in `day.rs`.
 
 use dispatch_tests::desk::{self, Answer};
@@ -116,7 +116,7 @@ fn lights() {
         same(&light.encode(), wanted, what);
         assert_eq!(Light::read(&bytes(wanted)), Some(light), "{what}");
     }
-    same(&four::hex(four::B_LIGHT), &B, "the light of document 01");
+    same(&four::hex(four::B_LIGHT), &B, "the light of case B in `four`");
 }
 
 /// The rows of this board, by what the desk's post leaves, stand in `worked.rs`, `k_posted_twice`, too.
