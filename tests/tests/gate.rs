@@ -281,14 +281,13 @@ fn more_is_there() {
         tree.write(file, text);
         tree.gate().fails("13 passed, 1 failed", &[short]);
     }
-    // The repository's own documentation test is counted.
+    // The repository's own documentation tests are counted.
     let tree = Tree::new("own");
-    for file in ["README.md", "tests/src/lib.rs"] {
-        fs::copy(c::root().join(file), tree.folder.join(file)).unwrap();
+    for file in ["lib.rs", "desk.rs", "calls.rs"] {
+        fs::copy(c::root().join("bindings/rust/src").join(file), tree.folder.join("bindings/rust/src").join(file)).unwrap();
     }
-    tree.says("tests", &TESTS.replace("ok. 1 passed", "ok. 0 passed"), 0);
     let gate = tree.gate();
-    assert!(!gate.ended_well && gate.short.iter().any(|line| line.starts_with("documentation tests in tests/: 0 of ")), "{gate:?}");
+    assert!(!gate.ended_well && gate.short.len() == 1 && gate.short[0].starts_with("documentation tests in bindings/: 2 of "), "{gate:?}");
 }
 
 /// A tree from which all of a kind is gone, as is what was reported of it.
@@ -296,21 +295,20 @@ fn more_is_there() {
 fn nothing_is_there() {
     let tree = Tree::new("nothing");
     tree.write("crates.txt", "# none\n");
-    for folder in ["crates/one", "crates/two", "crates/prints", "tests/tests", "bindings"] {
+    for folder in ["crates/one", "crates/two", "crates/prints", "tests", "bindings"] {
         fs::remove_dir_all(tree.folder.join(folder)).unwrap();
     }
     for command in ["ci", "bindings", "tests"] {
         tree.says(command, "", 0);
     }
     tree.gate().fails(
-        "0 passed, 6 failed",
+        "0 passed, 5 failed",
         &[
             "crates proved: the tree has none",
             "must-fail edits refused: the tree has none",
             "programs run: the tree has none",
             "tests in bindings/: the tree has none",
             "tests in tests/: the tree has none",
-            "documentation tests in tests/: 0 of 1 were run",
         ],
     );
 }
@@ -399,6 +397,7 @@ fn settings_of_the_caller() {
         "ROUTES",
         "SITES",
         "DESK_FAULT",
+        "DISPATCH_LIB_DIR",
         "RT_CUT",
         "RUSTC",
         "RUSTC_WRAPPER",
