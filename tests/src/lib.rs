@@ -12,6 +12,7 @@
 //! - `day`: what the day program must print.
 //! - `c`: programs in C and C++ over the archive.
 //! - `docs`: what the documents and the header say.
+//! - `programs`: made-up commands that tests write and start.
 
 pub mod c;
 pub mod day;
@@ -26,6 +27,7 @@ pub mod literal;
 pub mod literal_desk;
 pub mod plain;
 pub mod plain_board;
+pub mod programs;
 #[cfg(feature = "standin")]
 pub mod standin;
 pub mod travel;

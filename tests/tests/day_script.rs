@@ -4,16 +4,15 @@
 
 use dispatch_tests::gen::{self, Rng};
 use dispatch_tests::literal::{encode, put};
-use dispatch_tests::{c, day, four};
+use dispatch_tests::{c, day, docs, four, programs};
 use std::collections::BTreeSet;
 use std::ffi::OsString;
 use std::fs;
 use std::io::{BufRead, BufReader, Read, Write};
-use std::os::unix::fs::{symlink, MetadataExt, PermissionsExt};
+use std::os::unix::fs::{symlink, MetadataExt};
 use std::path::{Path, PathBuf};
-use std::process::{Child, Command, Stdio};
+use std::process::{Command, Stdio};
 use std::sync::mpsc::{channel, Receiver};
-use std::sync::Mutex;
 use std::time::{Duration, Instant};
 
 /// All that `./day` needs besides `rt`.
@@ -27,31 +26,10 @@ echo 'rt: meaning proved (unchanged since it was last proved)'
 echo 'rt: day proved (unchanged since it was last proved)'
 echo 'rt: ok, 2 crates proved'";
 
-/// Held while a program is written and while one is started. What is started has all open files for a moment, and a program that is open for
-/// writing can't be run.
-static STARTS: Mutex<()> = Mutex::new(());
-
 /// A command of the path, by its whole name.
 fn tool(name: &str) -> PathBuf {
     let path = std::env::var_os("PATH").unwrap();
     std::env::split_paths(&path).map(|folder| folder.join(name)).find(|file| file.is_file()).unwrap_or_else(|| panic!("no {name} on the path"))
-}
-
-fn write_program(file: &Path, text: &str) {
-    let _held = STARTS.lock().unwrap();
-    fs::create_dir_all(file.parent().unwrap()).unwrap();
-    let _ = fs::remove_file(file);
-    fs::write(file, text).unwrap();
-    fs::set_permissions(file, fs::Permissions::from_mode(0o755)).unwrap();
-}
-
-fn mode(file: &Path, mode: u32) {
-    fs::set_permissions(file, fs::Permissions::from_mode(mode)).unwrap();
-}
-
-fn start(command: &mut Command) -> Child {
-    let _held = STARTS.lock().unwrap();
-    command.stdout(Stdio::piped()).stderr(Stdio::piped()).spawn().unwrap_or_else(|error| panic!("{command:?} does not start: {error}"))
 }
 
 /// A command that has ended.
@@ -78,7 +56,7 @@ impl Done {
 }
 
 fn finish(command: &mut Command, input: Option<&[u8]>) -> Done {
-    let mut child = start(command.stdin(if input.is_some() { Stdio::piped() } else { Stdio::null() }));
+    let mut child = programs::start(command.stdin(if input.is_some() { Stdio::piped() } else { Stdio::null() }));
     // In a thread, as the program may print before it has read everything, or end early.
     let writer = child.stdin.take().map(|mut pipe| {
         let bytes = input.unwrap().to_vec();
@@ -130,10 +108,7 @@ impl Place {
     fn copied_to(folder: PathBuf) -> Place {
         let place = Place::at(folder.clone(), folder.join("copy/day"));
         for file in ["day", "include/dispatch.h", "crates/day/data/site.bin", "crates/day/stdin"] {
-            let copy = folder.join("copy").join(file);
-            fs::create_dir_all(copy.parent().unwrap()).unwrap();
-            let _held = STARTS.lock().unwrap();
-            fs::copy(c::root().join(file), copy).unwrap();
+            programs::copy(&c::root().join(file), &folder.join("copy").join(file));
         }
         fs::write(folder.join("copy/crates.txt"), "# crates\none:\ntwo: one libc\n\nother: two one\nday: two one # itself\nafter: day\n").unwrap();
         place
@@ -151,7 +126,7 @@ impl Place {
     /// Puts an `rt` on the path that does this, once it has taken all of its input. It is to be asked for one thing, in the repository's folder.
     fn rt(&self, does: &str) {
         let path = std::env::var("PATH").unwrap();
-        write_program(
+        programs::write(
             &self.folder.join("kit/rt"),
             &format!("#!/bin/sh\nPATH='{path}'\ncat >/dev/null\n[ \"$*\" = 'check day' ] && [ -f crates.txt ] || exit 2\n{does}\n"),
         );
@@ -194,10 +169,8 @@ impl Place {
 
 /// The text of a number in include/dispatch.h.
 fn text(number: u32) -> String {
-    let header = fs::read_to_string(c::root().join("include/dispatch.h")).unwrap();
-    let entry = header.lines().find(|line| line.trim_start().starts_with("X(DISPATCH_") && line.contains(&format!(", {number}, \"")));
-    let entry = entry.unwrap_or_else(|| panic!("include/dispatch.h has no text for {number}"));
-    entry[entry.find('"').unwrap() + 1..entry.rfind('"').unwrap()].to_string()
+    let entry = docs::header_numbers().into_iter().find(|entry| u32::from(entry.number) == number);
+    entry.unwrap_or_else(|| panic!("include/dispatch.h has no text for {number}")).text
 }
 
 fn script(fields: &[(u8, &[u8])]) -> Vec<u8> {
@@ -320,14 +293,10 @@ fn site_counts_as_empty() {
 fn files_that_cannot_be_read() {
     let place = Place::copied_to(std::env::temp_dir().join(format!("day_script_{}", std::process::id())));
     place.rt(UNCHANGED);
-    fs::create_dir_all(place.program().parent().unwrap()).unwrap();
-    {
-        let _held = STARTS.lock().unwrap();
-        fs::copy(c::root().join("target/bin/day"), place.program()).unwrap();
-    }
+    programs::copy(&c::root().join("target/bin/day"), &place.program());
     place.shift("shift", Some(&four::bytes()), &case_b(0));
     fs::create_dir(place.folder.join("tmp")).unwrap();
-    mode(&place.folder.join("tmp"), 0o777);
+    programs::set_mode(&place.folder.join("tmp"), 0o777);
     assert!(Command::new("chmod").args(["-R", "go+rX"]).arg(&place.folder).status().unwrap().success());
     let run = |words: &[&str]| {
         let ours = place.command(words);
@@ -340,15 +309,15 @@ fn files_that_cannot_be_read() {
         finish(&mut command, None)
     };
     assert_eq!(run(&["shift"]).out, "0 1 0\n0 1 10\n0 2 0\n");
-    mode(&place.folder.join("shift/site.bin"), 0o000);
+    programs::set_mode(&place.folder.join("shift/site.bin"), 0o000);
     let done = run(&["shift"]);
     assert!(done.status == Some(0) && done.out == "3 0 0\n", "{done:?}");
     assert_eq!(done.said()[1], "Site:   shift/site.bin can't be read, so it counts as empty");
-    mode(&place.folder.join("shift/script"), 0o000);
+    programs::set_mode(&place.folder.join("shift/script"), 0o000);
     run(&["shift"]).stopped(2, &["shift/script", "can't be read"]);
-    mode(&place.folder.join("shift"), 0o600);
+    programs::set_mode(&place.folder.join("shift"), 0o600);
     run(&["shift"]).stopped(2, &["'shift'", "can't be entered"]);
-    mode(&place.folder.join("shift"), 0o700);
+    programs::set_mode(&place.folder.join("shift"), 0o700);
     fs::remove_dir_all(&place.folder).unwrap();
 }
 
@@ -438,7 +407,7 @@ fn empty_script() {
 #[test]
 fn late_script() {
     let place = Place::new("late");
-    let mut child = start(place.merged(&["-"]).stdin(Stdio::piped()));
+    let mut child = programs::start(place.merged(&["-"]).stdin(Stdio::piped()));
     let mut input = child.stdin.take().unwrap();
     let lines = lines(child.stdout.take().unwrap());
     for field in ["field 1 is refused: 13, ", "field 2 is refused: 13, "] {
@@ -469,11 +438,11 @@ fn long_script() {
 fn bytes_and_status_of_the_program() {
     let place = Place::copied("status");
     place.rt(UNCHANGED);
-    write_program(&place.program(), "#!/bin/sh\necho '0 1 0'\nprintf '42 \\\\ x\\n0 1'\nexit 7\n");
+    programs::write(&place.program(), "#!/bin/sh\necho '0 1 0'\nprintf '42 \\\\ x\\n0 1'\nexit 7\n");
     let done = place.run(&[], None);
     assert!(done.status == Some(7) && done.out == "0 1 0\n42 \\ x\n0 1", "{done:?}");
     // It reads site.bin of the folder that was named.
-    write_program(&place.program(), "#!/bin/sh\nwhile read -r line; do echo \"$line\"; done <site.bin\n");
+    programs::write(&place.program(), "#!/bin/sh\nwhile read -r line; do echo \"$line\"; done <site.bin\n");
     place.shift("shift", Some(b"0 0 1\n"), &[]);
     place.shift("elsewhere/shift", Some(b"0 0 2\n"), &[]);
     for words in [&["shift"][..], &["shift", "-"]] {
@@ -481,7 +450,7 @@ fn bytes_and_status_of_the_program() {
         assert!(done.status == Some(0) && done.out == "0 0 1\n", "{done:?}");
     }
     // Lines that can't be written are no success.
-    write_program(&place.program(), "#!/bin/sh\necho '0 1 0'\n");
+    programs::write(&place.program(), "#!/bin/sh\necho '0 1 0'\n");
     let lost = finish(Command::new(tool("bash")).args(["-c", "exec \"$0\" >/dev/full"]).arg(&place.day).env("PATH", place.path()), None);
     assert!(lost.status != Some(0), "{lost:?}");
 }
@@ -490,7 +459,7 @@ fn bytes_and_status_of_the_program() {
 fn no_rt() {
     let place = Place::copied("no_rt");
     place.run(&[], None).stopped(1, &["rt", "Rattle kit", "not on the path", "target/bin/day, and there is none."]);
-    write_program(&place.program(), "#!/bin/sh\necho '0 1 0'\n");
+    programs::write(&place.program(), "#!/bin/sh\necho '0 1 0'\n");
     place.run(&[], None).stopped(1, &["rt", "Rattle kit", "not on the path", "target/bin/day."]);
     place.rt(UNCHANGED);
     assert_eq!(place.run(&[], None).out, "0 1 0\n");
@@ -515,7 +484,7 @@ fn progress() {
         echo 'rt: ok, 3 crates proved'",
         go.display()
     ));
-    let mut child = start(place.command(&["-"]).stdin(Stdio::piped()));
+    let mut child = programs::start(place.command(&["-"]).stdin(Stdio::piped()));
     child.stdin.take().unwrap().write_all(b"0 1 0\n").unwrap();
     let said = lines(child.stderr.take().unwrap());
     let mut all = Vec::new();
@@ -544,7 +513,7 @@ fn not_built() {
     place.rt(&format!("printf '%s' '{report}' >&2; exit 1"));
     for earlier in [false, true] {
         if earlier {
-            write_program(&place.program(), "#!/bin/sh\necho '0 1 0'\n");
+            programs::write(&place.program(), "#!/bin/sh\necho '0 1 0'\n");
         }
         let done = place.run(&[], None);
         assert!(done.status == Some(1) && done.out.is_empty(), "{done:?}");

@@ -2,12 +2,10 @@
 
 #![cfg(not(feature = "standin"))]
 
-use dispatch_tests::c;
+use dispatch_tests::{c, programs};
 use std::fs;
-use std::os::unix::fs::PermissionsExt;
 use std::path::{Path, PathBuf};
 use std::process::{Command, Stdio};
-use std::sync::Mutex;
 
 /// What the commands report of the tree below, in the lines of the real ones.
 const PROVED: &str = "\
@@ -111,10 +109,6 @@ done <\"said/$name\"
 exit \"$(cat \"said/$name.status\")\"
 ";
 
-/// Held while a program is written and while one is started. What is started has all open files for a moment, and a program that is open for
-/// writing can't be run.
-static STARTS: Mutex<()> = Mutex::new(());
-
 struct Tree {
     folder: PathBuf,
 }
@@ -132,14 +126,11 @@ impl Tree {
             tree.says(command, text, 0);
         }
         tree.write("said/archive", "archive");
-        let _held = STARTS.lock().unwrap();
         for (file, text) in [("kit/rt", RT), ("kit/cargo", CARGO)] {
-            tree.write(file, text);
-            fs::set_permissions(tree.folder.join(file), fs::Permissions::from_mode(0o755)).unwrap();
+            programs::write(&tree.folder.join(file), text);
         }
-        fs::create_dir(tree.folder.join(".ci")).unwrap();
         for file in ["test", ".ci/run"] {
-            fs::copy(c::root().join(file), tree.folder.join(file)).unwrap();
+            programs::copy(&c::root().join(file), &tree.folder.join(file));
         }
         tree
     }
@@ -168,10 +159,7 @@ impl Tree {
     }
 
     fn run(&self, command: &mut Command) -> Gate {
-        let child = {
-            let _held = STARTS.lock().unwrap();
-            command.stdin(Stdio::null()).stdout(Stdio::piped()).stderr(Stdio::piped()).spawn().unwrap()
-        };
+        let child = programs::start(command.stdin(Stdio::null()));
         let done = child.wait_with_output().unwrap();
         let printed = String::from_utf8(done.stdout).unwrap();
         let short = printed.lines().filter_map(|line| line.strip_prefix("SHORT: ")).map(str::to_string).collect();
