@@ -1,10 +1,11 @@
-//! What include/dispatch.h says of areas and of the stack.
+//! What include/dispatch.h says of areas, of the stack and of state.
 
 #![cfg(not(feature = "standin"))]
 
 use dispatch_tests::literal::{encode, Motion, Site, State, Sweep};
 use dispatch_tests::{c, four};
 use std::fs;
+use std::process::Command;
 use std::sync::Once;
 
 /// Each area in turn as a null pointer of length 0: the answer is that of an empty area. Between them, an output area that is one byte too
@@ -210,4 +211,21 @@ fn stack() {
 fn threads_with_just_the_stack() {
     let wanted: String = ANSWERS.iter().map(|number| format!("{number} ")).collect();
     assert_eq!(on_largest("just_the_stack", JUST), wanted);
+}
+
+/// The archive has no memory of its own that can be written, defines nothing for others but the calls, and needs two functions of the C library.
+#[test]
+fn no_state() {
+    let done = Command::new("nm").arg(c::root().join("target/staticlib/libdispatch_c.a")).output().unwrap();
+    assert!(done.status.success());
+    let listed = String::from_utf8(done.stdout).unwrap();
+    let symbols: Vec<Vec<&str>> =
+        listed.lines().map(|line| line.split_whitespace().rev().take(2).collect()).filter(|words: &Vec<_>| words.len() == 2).collect();
+    let of = |kind: &str| -> Vec<&str> { symbols.iter().filter(|words| words[1] == kind).map(|words| words[0]).collect() };
+    assert_eq!(of("U"), ["memcpy", "memset"]);
+    let mut calls = of("T");
+    calls.sort_unstable();
+    let names = ["audit", "close", "interval", "open", "post", "route", "travel", "withdraw"];
+    assert_eq!(calls, names.map(|name| format!("dispatch_{name}")));
+    assert!(symbols.iter().all(|words| ["U", "T", "t", "r"].contains(&words[1])), "{listed}");
 }

@@ -90,6 +90,31 @@ fn desk_and_plain_board_agree() {
     }
 }
 
+/// Routes and audits of one desk from eight threads at a time, each over its own trips, answer as one after the other do.
+#[test]
+fn threads_share_a_desk() {
+    let mut rng = Rng::new(13);
+    let site = gen::site(&mut rng, Size::Middle);
+    let file = encode(&site);
+    let desk = Desk::resume(&file, &gen::board(&mut rng, &site)).unwrap();
+    let last = site.states.len() as u16 - 1;
+    let trips: Vec<Trip> = (0..400).map(|k| Trip { tug: 1 + k as u8 % 199, start: k % last, tick: k % 7, goal: last - k % last, dwell: k % 3 }).collect();
+    let alone: Vec<_> = trips.iter().map(|&trip| desk.route(trip)).collect();
+    assert!(alone.iter().filter(|answer| answer.is_ok()).count() >= 20, "few routes are granted");
+    std::thread::scope(|scope| {
+        for first in 0..8 {
+            let (desk, trips, alone) = (&desk, &trips, &alone);
+            scope.spawn(move || {
+                for k in (0..trips.len()).map(|k| (k + 50 * first) % trips.len()) {
+                    let answer = desk.route(trips[k]);
+                    assert_eq!(answer, alone[k]);
+                    assert!(answer.is_err() || desk.audit(&answer.unwrap().light).is_ok());
+                }
+            });
+        }
+    });
+}
+
 /// A refused site is refused with its own number, whatever its head says, and so is a board of a wrong length.
 #[test]
 fn refused_sites_and_boards() {
