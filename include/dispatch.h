@@ -56,6 +56,7 @@
     X(DISPATCH_NO_PLAN, 18, "no valid plan exists")                                                                         \
     X(DISPATCH_TOO_FAR, 19, "the distance is above 511 decimetres")
 
+/* As an enum; DISPATCH_NUMBER_COUNT is how many there are, 0 included. */
 #define DISPATCH_ENTRY(name, number, text) name = number,
 enum dispatch_number { DISPATCH_NUMBERS(DISPATCH_ENTRY) DISPATCH_NUMBER_COUNT };
 #undef DISPATCH_ENTRY
@@ -78,11 +79,16 @@ static inline const char *dispatch_text(int number) {
 #define DISPATCH_ARRIVAL(word) ((uint32_t)((word) >> 32))            /* of dispatch_route */
 
 /* The last tick H, the number of cells C and the number of states S, as the head of a site file has them. They are read
- * from its first 8 bytes, which must be there, and are in range once a call has accepted the file. So size the board by
- * them, open it, and then size the other areas: a board by a faulty head has at most 17 MB, and the call refuses it. */
+ * from its first 8 bytes, and are in range once a call has accepted the file. So size the board by them, open it, and then
+ * size the other areas: a board by a faulty head has at most 17 MB, and the call refuses it. A file of fewer bytes is
+ * refused whatever the board is, a null pointer and 0 included. */
 #define DISPATCH_SITE_H(site) ((size_t)((site)[3] << 8 | (site)[4]))
 #define DISPATCH_SITE_C(site) ((size_t)(site)[5])
 #define DISPATCH_SITE_S(site) ((size_t)((site)[6] << 8 | (site)[7]))
+
+/* The edition of a board: how often it has changed. */
+#define DISPATCH_EDITION(board) \
+    ((uint32_t)(board)[0] << 24 | (uint32_t)(board)[1] << 16 | (uint32_t)(board)[2] << 8 | (uint32_t)(board)[3])
 
 /* The sizes of the areas, in elements. The board has just that many bytes; the others have at least so many. */
 #define DISPATCH_BOARD_BYTES(H, C) (4 + (size_t)(C) * ((size_t)(H) + 1))

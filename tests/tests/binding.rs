@@ -4,7 +4,7 @@
 
 use dispatch::{Desk, Granted, Refusal, Trip};
 use dispatch_tests::gen::{self, Call, Caller, Rng, Size};
-use dispatch_tests::literal::{encode, Site};
+use dispatch_tests::literal::{encode, Light, Site, Step};
 use dispatch_tests::plain_board::PlainBoard;
 use dispatch_tests::{c, docs, four};
 use std::fs;
@@ -90,6 +90,37 @@ fn desk_and_plain_board_agree() {
     }
 }
 
+/// The steps of granted lights, of lights with any bytes and of damaged ones are those of the literal reading, which has them where a light keeps
+/// its layout.
+#[test]
+fn steps_of_lights() {
+    let mut rng = Rng::new(14);
+    let (mut lights, mut others) = (0, 0);
+    for _ in 0..2_000 {
+        let site = gen::site(&mut rng, Size::Row);
+        let board = gen::board(&mut rng, &site);
+        let caller = Caller { site: &site, file: &encode(&site), lights: vec![] };
+        for _ in 0..20 {
+            if let Call::Audit { light } | Call::Post { light } = caller.any(&mut rng, &board) {
+                let read = Light::read(&light).map(|light| light.steps.into_iter().map(as_step).collect::<Vec<_>>());
+                *(if read.is_some() { &mut lights } else { &mut others }) += 1;
+                assert_eq!(dispatch::steps(&light), read.ok_or(Refusal::LightLayout), "{light:?}");
+            }
+        }
+    }
+    assert!(lights >= 1_000 && others >= 1_000, "{lights} lights, {others} others");
+    let longest = |steps| Light { edition: 0, tug: 7, start: 0, tick: 0, goal: 0, arrival: 0, dwell: 0, steps: vec![Step::Move(256); steps] }.encode();
+    assert_eq!(dispatch::steps(&longest(1_000)), Ok(vec![dispatch::Step::Motion(256); 1_000]));
+    assert_eq!(dispatch::steps(&longest(1_001)), Err(Refusal::LightLayout));
+}
+
+fn as_step(step: Step) -> dispatch::Step {
+    match step {
+        Step::Wait(n) => dispatch::Step::Wait(n),
+        Step::Move(k) => dispatch::Step::Motion(k),
+    }
+}
+
 /// Routes and audits of one desk from eight threads at a time, each over its own trips, answer as one after the other do.
 #[test]
 fn threads_share_a_desk() {
@@ -167,7 +198,7 @@ fn new_package(edition: &str) -> PathBuf {
 #[test]
 fn new_packages() {
     let readme = docs::text("README.md");
-    let shown = docs::block(&readme, "text", "$ cargo new first");
+    let shown = docs::block(&readme, "text", "$ cargo new first_rust");
     let wanted: String = shown.lines().skip_while(|line| !line.contains("cargo run")).skip(1).map(|line| format!("{line}\n")).collect();
     for edition in ["2021", "2024"] {
         let folder = new_package(edition);
@@ -191,21 +222,35 @@ fn package_as_edition_2024() {
     done(built);
 }
 
-/// Without the archive, the build says what is missing and how to make it.
-#[test]
-fn archive_missing() {
-    let folder = Path::new(env!("CARGO_TARGET_TMPDIR")).join("empty");
-    fs::create_dir_all(&folder).unwrap();
+/// What the build of the package says where the archive is looked for in this folder, and where it fails.
+fn build_with(folder: &str) -> String {
     let target = Path::new(env!("CARGO_TARGET_TMPDIR")).join("archive_missing");
     let built = Command::new(env!("CARGO"))
         .args(["build", "--offline", "--manifest-path"])
         .arg(c::root().join("bindings/rust/Cargo.toml"))
         .arg("--target-dir")
         .arg(&target)
-        .env("DISPATCH_LIB_DIR", &folder)
+        .env("DISPATCH_LIB_DIR", folder)
         .output()
         .unwrap();
-    let said = String::from_utf8_lossy(&built.stderr);
-    assert!(!built.status.success());
+    if built.status.success() {
+        String::new()
+    } else {
+        String::from_utf8(built.stderr).unwrap()
+    }
+}
+
+/// Without the archive, the build says what is missing and how to make it.
+#[test]
+fn archive_missing() {
+    let empty = Path::new(env!("CARGO_TARGET_TMPDIR")).join("empty");
+    fs::create_dir_all(&empty).unwrap();
+    let said = build_with(empty.to_str().unwrap());
     assert!(said.contains("empty/libdispatch_c.a") && said.contains("rt staticlib dispatch_c") && said.contains("DISPATCH_LIB_DIR"), "{said}");
+    let said = build_with("target/staticlib");
+    assert!(said.contains("DISPATCH_LIB_DIR is target/staticlib; it has to be an absolute path."), "{said}");
+    let there = fs::canonicalize(c::root().join("target/staticlib")).unwrap();
+    for found in ["", there.to_str().unwrap()] {
+        assert_eq!(build_with(found), "", "DISPATCH_LIB_DIR={found}");
+    }
 }

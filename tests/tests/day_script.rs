@@ -15,7 +15,7 @@ use std::process::{Command, Stdio};
 use std::sync::mpsc::{channel, Receiver};
 use std::time::{Duration, Instant};
 
-/// All that `./day` needs besides `rt`.
+/// All that `./day` needs besides `rt`. Without `flock` it takes no lock, so that these tests need not wait for each other.
 const TOOLS: [&str; 10] = ["awk", "bash", "cat", "dirname", "mktemp", "readlink", "rm", "sed", "stat", "tee"];
 
 const HEADING: &str = "One line for each field of the script, or 0 0 0 if it is empty: number (0 if accepted), edition after, arrival";
@@ -466,6 +466,23 @@ fn no_rt() {
 }
 
 /// A line for each crate that is proved now, when it is reported; none for the others.
+/// Two at a time in one clone: the second one waits until the first has proved, and says so.
+#[test]
+fn one_at_a_time() {
+    let place = Place::copied("together");
+    symlink(tool("flock"), place.folder.join("tools/flock")).unwrap();
+    programs::write(&place.program(), "#!/bin/sh\necho '0 1 0'\n");
+    place.rt(&format!("echo begins >>'{0}'\nsleep 1\necho ends >>'{0}'\n{UNCHANGED}", place.folder.join("log").display()));
+    let children = [0, 1].map(|_| programs::start(place.command(&["-"]).stdin(Stdio::null())));
+    let waits = children.map(|child| {
+        let done = child.wait_with_output().unwrap();
+        assert!(done.status.success() && done.stdout == b"0 1 0\n", "{done:?}");
+        String::from_utf8(done.stderr).unwrap().contains("waiting for it")
+    });
+    assert!(waits[0] != waits[1], "{waits:?}");
+    assert_eq!(fs::read_to_string(place.folder.join("log")).unwrap(), "begins\nends\nbegins\nends\n");
+}
+
 #[test]
 fn progress() {
     let place = Place::copied("progress");
@@ -495,7 +512,7 @@ fn progress() {
     let done = child.wait_with_output().unwrap();
     all.extend(said);
     assert!(done.status.success() && done.stdout == b"0 1 0\n", "{all:?}");
-    assert!(all[0].contains("3 crates") && all[0].contains("about 4 minutes the first time"), "{all:?}");
+    assert!(all[0].contains("3 crates") && all[0].contains("4 to 6 minutes the first time"), "{all:?}");
     assert_eq!(all[1..3], ["  proved 2 of 3: two (3 s)", "  proved 3 of 3: day (61 s)"]);
     assert!(all[3].starts_with("Site: "), "{all:?}");
     // The second time nothing is proved.

@@ -48,14 +48,22 @@ fn command_that_makes_a_file() {
     let folder = Path::new(env!("CARGO_TARGET_TMPDIR")).join("make");
     let _ = fs::remove_dir_all(&folder);
     fs::create_dir_all(&folder).unwrap();
-    let every: String = (0..=255).map(|byte| format!("{byte:02x}\t# {byte}\r\n")).collect();
+    // Behind # stands a byte that is no UTF-8.
+    let every: Vec<u8> = (0..=255).flat_map(|byte| [format!("{byte:02x}\t# ").as_bytes(), b"\xe9 41\r\n"].concat()).collect();
     let every_bytes: Vec<u8> = (0..=255).collect();
-    let worked = block(&formats(), "hex", "# head: H 12, C 4, S 5");
-    for (source, wanted) in [(worked, four::bytes()), (every, every_bytes)] {
+    let worked = block(&formats(), "hex", "# head: H 12, C 4, S 5").into_bytes();
+    let (long, long_bytes) = (b"0fA0 ".repeat(32_768), [0x0f, 0xa0].repeat(32_768));
+    for (source, wanted) in [(worked, four::bytes()), (every, every_bytes), (long, long_bytes)] {
         fs::write(folder.join("hall.hex"), source).unwrap();
-        let done = Command::new("bash").args(["-c", &command]).current_dir(&folder).status().unwrap();
-        assert!(done.success());
+        let done = Command::new("bash").args(["-c", &command]).current_dir(&folder).env("LC_ALL", "C.UTF-8").output().unwrap();
+        assert!(done.status.success() && done.stderr.is_empty(), "{done:?}");
         assert_eq!(fs::read(folder.join("site.bin")).unwrap(), wanted);
+        fs::remove_file(folder.join("site.bin")).unwrap();
+    }
+    for wrong in ["01 0", "0O", "01 G2", "01 é"] {
+        fs::write(folder.join("hall.hex"), wrong).unwrap();
+        let done = Command::new("bash").args(["-c", &command]).current_dir(&folder).output().unwrap();
+        assert!(String::from_utf8(done.stderr).unwrap().starts_with("hall.hex: half a byte") && !folder.join("site.bin").exists(), "{wrong}");
     }
 }
 
@@ -126,7 +134,12 @@ fn links() {
             seen += 1;
             match target.split_once('#') {
                 Some(("", heading)) => assert!(headings.iter().any(|known| known == heading), "{document} links to {target}"),
-                _ => assert!(c::root().join(document).parent().unwrap().join(target).exists(), "{document} links to {target}"),
+                parts => {
+                    let path = c::root().join(document).parent().unwrap().join(parts.map_or(target, |parts| parts.0));
+                    assert!(path.exists(), "{document} links to {target}");
+                    let known = |heading: &str| fs::read_to_string(&path).unwrap().lines().any(|line| line.starts_with('#') && anchor(line) == heading);
+                    assert!(parts.is_none_or(|parts| known(parts.1)), "{document} links to {target}");
+                }
             }
         }
     }

@@ -94,6 +94,7 @@ const RT: &str = "#!/bin/sh
 echo \"rt $*\" >>said/calls
 env >>said/env
 cat >>said/input || exit 3
+if flock -n day true; then echo free; else echo held; fi >>said/lock
 case $1 in staticlib) mkdir -p target/staticlib && cp said/archive target/staticlib/libdispatch_c.a ;; esac
 cat \"said/$1\"
 exit \"$(cat \"said/$1.status\")\"
@@ -102,6 +103,7 @@ const CARGO: &str = "#!/bin/sh
 echo \"cargo $*\" >>said/calls
 env >>said/env
 cat >>said/input || exit 3
+if flock -n day true; then echo free; else echo held; fi >>said/lock
 case $* in *bindings*) name=bindings ;; *) name=tests ;; esac
 while IFS= read -r line; do
     case $line in '   '*) echo \"$line\" >&2 ;; *) echo \"$line\" ;; esac
@@ -129,7 +131,7 @@ impl Tree {
         for (file, text) in [("kit/rt", RT), ("kit/cargo", CARGO)] {
             programs::write(&tree.folder.join(file), text);
         }
-        for file in ["test", ".ci/run"] {
+        for file in ["test", ".ci/run", "day"] {
             programs::copy(&c::root().join(file), &tree.folder.join(file));
         }
         tree
@@ -201,6 +203,8 @@ fn everything_is_reported() {
     let calls = ["rt ci".to_string(), "rt staticlib dispatch_c".to_string(), format!("{cargo} bindings/rust/Cargo.toml"), format!("{cargo} tests/Cargo.toml")];
     assert_eq!(gate.calls, calls);
     assert_eq!(fs::read_to_string(tree.folder.join("said/input")).unwrap(), "");
+    // While it proves, `./day` waits. The tests, which run `./day`, find it free.
+    assert_eq!(fs::read_to_string(tree.folder.join("said/lock")).unwrap(), "held\nheld\nfree\nfree\n");
     // From another folder, where CDPATH leads elsewhere; by another user than root; and with the names in another order.
     let mut proved: Vec<&str> = PROVED.lines().collect();
     proved.swap(0, 2);

@@ -23,6 +23,7 @@ static const uint8_t site[100] = {{{}}};
 /* of constants, so that areas can be arrays */
 static uint8_t board[DISPATCH_BOARD_BYTES(12, 4)], light[DISPATCH_LIGHT_BYTES(12)];
 static uint32_t work[DISPATCH_WORK_WORDS(12, 5)];
+static const uint8_t edition[4] = {{0xf1, 2, 3, 4}};
 static uint16_t numbers[DISPATCH_INTERVAL_NUMBERS(12)];
 static void sizes(unsigned h, unsigned c, unsigned s) {{
     printf("%zu %zu %zu %zu\n", DISPATCH_BOARD_BYTES(h, c), DISPATCH_LIGHT_BYTES(h), DISPATCH_WORK_WORDS(h, s), DISPATCH_INTERVAL_NUMBERS(h));
@@ -40,6 +41,7 @@ int main(void) {{
     printf("%d %d %d\n", DISPATCH_STACK_ROUTE, DISPATCH_STACK_LIGHT, DISPATCH_STACK);
     printf("%zu %zu %zu\n", DISPATCH_SITE_H(site), DISPATCH_SITE_C(site), DISPATCH_SITE_S(site));
     printf("%zu %zu %zu %zu\n", sizeof board, sizeof light, sizeof work, sizeof numbers);
+    printf("%lu\n", (unsigned long)DISPATCH_EDITION(edition));
     word = dispatch_open(site, sizeof site, board, sizeof board);
     printf("%d\n", DISPATCH_NUMBER(word));
     word = dispatch_route(site, sizeof site, board, sizeof board, 7, 0, 0, 4, 2, light, sizeof light, work, sizeof work / sizeof *work);
@@ -72,7 +74,7 @@ fn wanted() -> String {
     text += &format!("{} {} {}\n", dispatch::STACK_ROUTE, dispatch::STACK_LIGHT, dispatch::STACK);
     let sizes = Sizes::of(&four::bytes()).unwrap();
     text += &format!("{} {} {}\n", sizes.horizon, sizes.cells, sizes.states);
-    text += "56 78 260 28\n0\n0 33 5\n0\n0 2\n";
+    text += &format!("56 78 260 28\n{}\n0\n0 33 5\n0\n0 2\n", 0xf102_0304u32);
     text
 }
 

@@ -31,7 +31,7 @@ pub struct Trip {
 /// A route that is granted. It books nothing until its light is posted.
 #[derive(Clone, PartialEq, Eq, Hash, Debug)]
 pub struct Granted {
-    /// The light: the plan, with the edition of the board that it was made from.
+    /// The light: the plan, with the edition of the board that it was made from. [`steps`](crate::steps) reads what the tug does.
     pub light: Vec<u8>,
     /// The tick at which the tug is at its goal; no plan that can unload there arrives earlier.
     pub arrival: u16,
@@ -64,10 +64,12 @@ impl Desk {
     /// use dispatch::{Desk, Refusal};
     ///
     /// let site = [1, 0, 5, 0, 9, 1, 0, 1, 2, 0, 2, 0, 0];
-    /// let mut monday = Desk::open(&site)?;
-    /// monday.close(200, 0, 3..=4)?;
-    /// let tuesday = Desk::resume(&site, monday.board())?;
-    /// assert_eq!(tuesday.edition(), 1);
+    /// let mut desk = Desk::open(&site)?;
+    /// desk.close(200, 0, 3..=4)?;
+    /// let kept = desk.board().to_vec();
+    /// // after a restart
+    /// let desk = Desk::resume(&site, &kept)?;
+    /// assert_eq!(desk.edition(), 1);
     /// assert_eq!(Desk::resume(&site, &[]), Err(Refusal::BoardLength));
     /// # Ok::<(), Refusal>(())
     /// ```

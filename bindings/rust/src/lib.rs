@@ -5,7 +5,7 @@
 //! refusal.
 //!
 //! The archive is made by `rt staticlib dispatch_c`. It is found in `target/staticlib` of the repository in which this package stands, or in
-//! the folder that the environment variable DISPATCH_LIB_DIR names. Linux on x86-64 alone.
+//! the folder that the environment variable DISPATCH_LIB_DIR names by an absolute path. Linux on x86-64 alone.
 //!
 //! ```
 //! use dispatch::{Desk, Refusal, Trip};
@@ -36,17 +36,19 @@
 
 pub mod calls;
 mod desk;
+mod light;
 mod refusal;
 mod sizes;
 mod word;
 
 pub use desk::{Desk, Granted, Trip};
+pub use light::{steps, Step};
 pub use refusal::Refusal;
 pub use sizes::Sizes;
 pub use word::Word;
 
-/// The most bytes of stack that [`Desk::route`] and [`calls::route`] take in the archive, also to refuse. Threads of the standard library have
-/// 2 MiB unless they are told otherwise.
+/// The most bytes of stack that [`Desk::route`] and [`calls::route`] take in the archive, also to refuse. A thread needs some more for itself, for
+/// which 16 KiB are plenty; threads of the standard library have 2 MiB unless they are told otherwise.
 pub const STACK_ROUTE: usize = 600_000;
 
 /// The most bytes of stack that audit and post take in the archive, also to refuse.
