@@ -260,6 +260,23 @@ fn posted_dwell_is_held() {
     assert_eq!(desk::close(&site, &mut board, 200, 3, 8, 8), Answer::plain(0));
 }
 
+/// 'Before a trip and after it' of docs/FORMATS.md: A with dwell 2 is at its goal until 7. The next trip from there has another number and begins at 8.
+/// Until it is booked others are granted the cell, though the tug may stand on it, and then it gets 18.
+#[test]
+fn trip_after_a_trip() {
+    let site = four::bytes();
+    let mut board = board(&[]);
+    let first = unloaded(&board, 0, 0, 2, &A_STEPS, 5);
+    assert_eq!(desk::post(&site, &mut board, &first), Answer::plain(0));
+    let (mut out, mut work) = (vec![0; 78], vec![0; 65]);
+    let mut next = |board: &[u8], tug, tick| desk::route(&site, board, tug, 4, tick, 4, 1, &mut out, &mut work).number;
+    assert_eq!([next(&board, 7, 8), next(&board, 8, 7), next(&board, 8, 8)], [12, 18, 0]);
+    assert_eq!(desk::close(&site, &mut board, 200, 3, 8, 8), Answer::plain(0));
+    assert_eq!(next(&board, 8, 8), 18);
+    assert_eq!(desk::withdraw(&site, &mut board, 7), Answer::plain(0));
+    assert_eq!(board[4..].iter().filter(|&&byte| byte != 0).count(), 1);
+}
+
 /// Audit and post read the dwell in the light, whatever the route was asked for.
 #[test]
 fn dwell_of_a_light() {
