@@ -1,6 +1,6 @@
 //! Tests of the release desk: its eight exported calls against independent programs in Rust.
 //!
-//! - `desk`: the exported calls, wrapped.
+//! - `desk`: the calls by the package in bindings/rust.
 //! - `plain`: an independent program for the seven calls on a site, with a fast timestep search.
 //! - `travel`: an independent program for the eighth, the travel times.
 //! - `literal`: the rules of docs/FORMATS.md, written as they read and slow.

@@ -2,7 +2,7 @@
 
 #![cfg(not(feature = "standin"))]
 
-use dispatch::{Desk, Refusal, Sizes, Trip};
+use dispatch::{steps, Desk, Granted, Refusal, Sizes, Step, Trip};
 use dispatch_tests::docs::{block, bytes, header_numbers, table, text};
 use dispatch_tests::gen::{self, CALLS};
 use dispatch_tests::{c, four};
@@ -39,6 +39,47 @@ fn script_light_and_board() {
     assert_eq!(light.len(), 38);
     desk.post(&light).unwrap();
     assert_eq!(desk.board(), hex("# edition 2"));
+}
+
+fn numbers_in(text: &str) -> Vec<u16> {
+    text.split(|c: char| !c.is_ascii_digit()).filter_map(|number| number.parse().ok()).collect()
+}
+
+/// What a route comes to, in the words of the table: its number, or its steps and arrival.
+fn in_words(route: Result<Granted, Refusal>) -> String {
+    let step = |step: Step| match step {
+        Step::Wait(n) => format!("W{n}"),
+        Step::Motion(k) => format!("M{k}"),
+    };
+    match route {
+        Err(refusal) => refusal.number().to_string(),
+        Ok(granted) => {
+            let all: Vec<String> = steps(&granted.light).unwrap().into_iter().map(step).collect();
+            format!("{}, arrival {}", if all.is_empty() { "no steps".to_string() } else { all.join(" ") }, granted.arrival)
+        }
+    }
+}
+
+/// The cases A to I, which are routes: each on its board, as the table has it. The other cases stand in `worked.rs` alone.
+#[test]
+fn routes_of_four_in_line() {
+    let rows = table(&formats(), "| case | board | call | answer |");
+    let column = |case: &str, k: usize| rows.iter().find(|row| row[0] == case).unwrap_or_else(|| panic!("no case {case}"))[k].as_str();
+    for case in ["A", "B", "C", "D", "E", "F", "G", "H", "I"] {
+        let mut desk = Desk::open(&four::bytes()).unwrap();
+        let board = column(case, 1).replace("as B", column("B", 1));
+        for (k, closed) in board.split(", and ").map(numbers_in).filter(|closed| !closed.is_empty()).enumerate() {
+            desk.close(200 + k as u8, closed[0], closed[1]..=*closed.last().unwrap()).unwrap();
+        }
+        let from = numbers_in(column(case, 2));
+        let (start, tick) = (from.first().copied().unwrap_or(0), from.last().copied().unwrap_or(0));
+        let answer = column(case, 3).replace("as B", column("B", 3));
+        let answer = answer.split([';', ':']).next().unwrap();
+        let said = in_words(desk.route(Trip { tug: 7, start, tick, goal: 4, dwell: 0 }));
+        // E gives its arrival alone.
+        let right = if case == "E" { said.ends_with(&format!(", {answer}")) } else { said == answer };
+        assert!(right, "case {case}: {said}, and the table says {answer}");
+    }
 }
 
 /// The command that turns a text into a file, run as it is printed, in a folder of its own: on the worked hall, and on every byte there is.

@@ -105,7 +105,7 @@ impl Desk {
     /// does not have.
     pub fn holder(&self, cell: u16, tick: u16) -> Option<u8> {
         let inside = cell < self.sizes.cells && tick <= self.sizes.horizon;
-        inside.then(|| self.board[4 + usize::from(cell) * (usize::from(self.sizes.horizon) + 1) + usize::from(tick)])
+        inside.then(|| self.board[4 + usize::from(cell) * self.sizes.ticks() + usize::from(tick)])
     }
 
     /// The safe intervals of a cell, in rising order: the runs of free ticks that can't be lengthened.

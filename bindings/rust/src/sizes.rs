@@ -15,11 +15,12 @@ impl Sizes {
     /// What the head says, or nothing if the file is too short to have one. Nothing is checked: the numbers mean something once a call has
     /// accepted the file.
     pub fn of(site: &[u8]) -> Option<Sizes> {
-        let &[_, _, _, h1, h0, c, s1, s0] = site.get(..8)?.first_chunk()?;
+        let &[_, _, _, h1, h0, c, s1, s0] = site.first_chunk()?;
         Some(Sizes { horizon: u16::from_be_bytes([h1, h0]), cells: c.into(), states: u16::from_be_bytes([s1, s0]) })
     }
 
-    fn ticks(self) -> usize {
+    /// The bytes of a cell's row on the board.
+    pub(crate) fn ticks(self) -> usize {
         usize::from(self.horizon) + 1
     }
 

@@ -19,13 +19,9 @@ impl Word {
     ///
     /// If the archive gives a number that this package does not know: the two are of different versions.
     pub fn refusal(self) -> Option<Refusal> {
-        match self.number() {
-            0 => None,
-            number => match Refusal::of(number) {
-                None => panic!("the archive answers {number}, which this package does not know: they are of different versions"),
-                known => known,
-            },
-        }
+        let (number, reason) = (self.number(), Refusal::of(self.number()));
+        assert!(number == 0 || reason.is_some(), "the archive answers {number}, which this package does not know: they are of different versions");
+        reason
     }
 
     /// The word of an accepted call, or the reason of the refusal.
