@@ -2,13 +2,15 @@
 //!
 //! - `desk`: the calls by the package in bindings/rust.
 //! - `plain`: an independent program for the seven calls on a site, with a fast timestep search.
-//! - `travel`: an independent program for the eighth, the travel times.
+//! - `pull`: a simple program for the route call, with a slow timestep search.
+//! - `travel`: an independent program for the eighth call, the travel times.
 //! - `literal`: the rules of docs/FORMATS.md, written as they read and slow.
 //! - `literal_desk`: the seven calls on a site, on `literal`, over a board of any bytes.
 //! - `plain_board`: the plain board of docs/FORMATS.md, on `literal`.
 //! - `lent`: what is lent to a call, and the call made with any of these programs.
 //! - `guarded`: areas between pages that nothing may touch.
 //! - `gen`: seeded sites, boards, lights and calls.
+//! - `worst`: sites on which a search takes long.
 //! - `day`: what the day program must print.
 //! - `c`: programs in C and C++ over the archive.
 //! - `docs`: what the documents and the header say.
@@ -28,6 +30,8 @@ pub mod literal_desk;
 pub mod plain;
 pub mod plain_board;
 pub mod programs;
+pub mod pull;
 #[cfg(feature = "standin")]
 pub mod standin;
 pub mod travel;
+pub mod worst;

@@ -5,6 +5,8 @@
 //! A set of states is 256 bits, so the waits of a tick are a few word operations. Other pairs are found by the motions
 //! from the states reached (push) while these are few, and by the motions that lead to the states in question (pull)
 //! while many are reached. Whether a motion may start at a tick is worked out for 256 ticks at a time, when first asked.
+//!
+//! `pull` reads and checks a site file with what this program has for it.
 
 use crate::desk::Answer;
 use std::cell::RefCell;
@@ -38,10 +40,10 @@ static BELOW: [[u64; 4]; 256] = {
 
 /// A motion with its sweeps left in the file.
 #[derive(Clone, Copy)]
-struct Motion {
-    from: u16,
-    to: u16,
-    d: u8,
+pub(crate) struct Motion {
+    pub(crate) from: u16,
+    pub(crate) to: u16,
+    pub(crate) d: u8,
     sweeps: u8,
     at: u32,
 }
@@ -52,7 +54,7 @@ pub struct Site<'a> {
     pub h: usize,
     pub c: usize,
     pub s: usize,
-    motions: Vec<Motion>,
+    pub(crate) motions: Vec<Motion>,
 }
 
 impl<'a> Site<'a> {
@@ -109,16 +111,16 @@ impl<'a> Site<'a> {
     }
 
     // Every state field has 5 bytes, so a state's value has a fixed place.
-    fn cell(&self, state: usize) -> usize {
+    pub(crate) fn cell(&self, state: usize) -> usize {
         self.bytes[HEAD + STATE * state + 3] as usize
     }
 
-    fn standing(&self, state: usize) -> bool {
+    pub(crate) fn standing(&self, state: usize) -> bool {
         self.bytes[HEAD + STATE * state + 4] == 0
     }
 
     /// Cell, a and b of each sweep.
-    fn sweeps(&self, motion: &Motion) -> impl Iterator<Item = (usize, usize, usize)> + 'a {
+    pub(crate) fn sweeps(&self, motion: &Motion) -> impl Iterator<Item = (usize, usize, usize)> + 'a {
         let at = motion.at as usize;
         let bytes: &'a [u8] = self.bytes;
         bytes[at..at + 3 * motion.sweeps as usize].chunks_exact(3).map(|w| (w[0] as usize, w[1] as usize, w[2] as usize))
@@ -186,7 +188,7 @@ impl<'a> Site<'a> {
 }
 
 /// Checks 1 to 7.
-fn enter<'a>(site: &'a [u8], board: &[u8]) -> Result<Site<'a>, u8> {
+pub(crate) fn enter<'a>(site: &'a [u8], board: &[u8]) -> Result<Site<'a>, u8> {
     let site = Site::read(site)?;
     if board.len() == site.board_len() {
         Ok(site)

@@ -7,7 +7,7 @@ use dispatch_tests::gen::{self, Call, Caller, Rng, Size, CALLS};
 use dispatch_tests::lent::{self, Area, Values};
 use dispatch_tests::literal::{encode, with_head, Light, Site, Step, MAX_DWELL};
 use dispatch_tests::plain_board::PlainBoard;
-use dispatch_tests::{plain, run};
+use dispatch_tests::{plain, pull, run};
 use std::collections::BTreeMap;
 use std::io::Write;
 use std::time::Instant;
@@ -184,6 +184,12 @@ impl Tally {
         assert!(left.bytes == wanted.bytes, "{}\nthe output bytes differ", place());
         assert!(left.numbers == wanted.numbers, "{}\nthe interval numbers differ", place());
         assert!(left.words == wanted.words, "{}\nthe working words differ", place());
+        if let Call::Route { tug, start, tick, goal, dwell, .. } = *call {
+            let mut simple = before.clone();
+            let (bytes, words) = (simple.bytes.all_mut(), simple.words.all_mut());
+            let said = pull::route(site, board, tug, start, tick, goal, dwell, bytes, words);
+            assert!(said == expected && simple == wanted, "{}\nthe simple program answers {said:?}, or leaves other areas", place());
+        }
         self.calls += 1;
         *self.pairs.entry((call.kind(), answer.number)).or_default() += 1;
         for dock in docks(call, &answer, &before, &left) {

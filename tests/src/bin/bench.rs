@@ -1,9 +1,10 @@
-//! The time of the whole route call, the desk's and the plain program's, on generated sites of 200 states,
-//! 1,000 motions and H 1,000, with at most a tenth of the board held and at least 400 ticks from start to arrival.
-//! Each dwell has a table of its own, over sites and boards from the same seed; those of dwell 0 are as they were before there was a dwell.
-//! Last comes the time of the site's check alone, which every call on a site begins with.
+//! The time of the whole route call on generated sites of 200 states, 1,000 motions and H 1,000, with at most a tenth of the board held: the desk's, that
+//! of the plain program (`plain`) and that of the simple one (`pull`). Number, light, arrival and working area of the three must be equal.
+//! The first tables are of routes with at least 400 ticks from start to arrival; then come routes below 100 ticks, and routes that are refused with 18.
+//! Each dwell has tables of its own, over sites and boards from the same seed; the first one of dwell 0 is as it was before there was a dwell.
+//! Then come the sites on which a search takes long (`worst`). Last comes the time of the site's check alone, which every call on a site begins with.
 //!
-//! `./bench`; ROUTES sets how many routes for each dwell (1,000; 0 for none), SITES how many sites for the check (the same)
+//! `./bench`; ROUTES sets how many routes for each table (1,000; 0 for none), SITES how many sites for the check (the same)
 //! and SEED the seed (1).
 //!
 //! HOW, which is printed first, says how sites and boards are made.
@@ -11,7 +12,7 @@
 use dispatch_tests::desk::{self, Answer};
 use dispatch_tests::gen::{motion_between, Rng};
 use dispatch_tests::literal::{encode, Motion, Site, State, Sweep};
-use dispatch_tests::plain;
+use dispatch_tests::{plain, pull, worst};
 use std::hint::black_box;
 use std::time::Instant;
 
@@ -23,11 +24,23 @@ Sites:
 - long: 200 cells, as random, with span 10 to 120 and 1 to 16 sweeps.
 - corridor: states in a row, standing and rolling in turn; motions to the next few states either way, span 2 to 9.
 Boards: held in short runs (1 to 4 ticks), in long runs (5 to 60 ticks), both up to nine in a hundred pairs, or in
-few runs (one in a hundred). Where the goal is nearer, its cell is held from tick 0 up to a tick of 400 to 900.
-With a dwell, in half of these the cell is held before that tick only here and there, so that tugs reach the goal
-but can't unload.
+few runs (one in a hundred).
+Routes of at least 400 ticks start at a tick below 80. Where the goal is nearer, its cell is held from tick 0 up to a
+tick of 400 to 900. With a dwell, in half of these the cell is held before that tick only here and there, so that tugs
+reach the goal but can't unload.
+Routes below 100 ticks start at any tick.
+Routes that are refused with 18 start at a free pair, on any of the boards: late, so that H is near; or before tick 80,
+with the goal's cell held from the first arrival on; or shut in, with the cells that the start's motions lead to held
+until its own is.
+Worst sites have 255 cells and 256 states, and routes lead from the first to the last at tick 0:
+- zigzag: 1,999 motions of span 1 between two halves of rolling states; on a free board, and with a third held.
+- 16 sweeps of 255: 1,140 motions of span 255 with 16 sweeps each, of 255 or 256 ticks.
+- handovers last: 1,140 motions with 16 sweeps each, where the sweeps that hand over come last.
+- walk: a light of 980 motions, each looked for among many that lead to the same state.
 The site's check is an open with no board, which is refused with 7 once the site has passed. It has one kind of site more:
-- adjoining: 200 cells, span 14, 16 sweeps of one offset each, the last offset first, so that no sweep hands over alone.";
+- adjoining: 200 cells, span 14, 16 sweeps of one offset each, the last offset first, so that no sweep hands over alone.
+Programs: plain (src/plain.rs) is made fast, pull (src/pull.rs) is simple. A ratio is the desk's time to that of the
+program in the column before.";
 
 /// The times at the dock, in ticks.
 const DWELLS: [u16; 2] = [0, 50];
@@ -126,7 +139,6 @@ fn leave_gaps(rng: &mut Rng, row: &mut [u8], dwell: u16) {
 }
 
 struct Case {
-    kind: usize,
     site: Vec<u8>,
     board: Vec<u8>,
     start: u16,
@@ -137,62 +149,181 @@ struct Case {
 
 const SITES: [&str; 5] = ["grid", "random", "long", "corridor", "adjoining"];
 const BOARDS: [&str; 3] = ["short runs", "long runs", "few runs"];
+const WHYS: [&str; 3] = ["late", "goal held", "shut in"];
+const CORRIDOR: usize = 3;
 
 fn site(rng: &mut Rng, kind: usize) -> Site {
     match kind {
         0 => grid(rng),
         1 => scattered(rng, 100, (1, 8), 4),
         2 => scattered(rng, 200, (10, 120), 16),
-        3 => corridor(rng),
+        CORRIDOR => corridor(rng),
         _ => adjoining(rng),
     }
 }
 
-/// A case of a kind, with an arrival at least 400 ticks after its start.
-fn case(rng: &mut Rng, kind: usize, dwell: u16, out: &mut [u8], work: &mut [u32]) -> Case {
-    loop {
-        let site = site(rng, kind / 3);
-        let (percent, run) = [(9, (1, 4)), (9, (5, 60)), (1, (5, 60))][kind % 3];
-        let booked = board(rng, &site, percent, run);
+/// The routes of a table.
+#[derive(Clone, Copy, PartialEq)]
+enum Wanted {
+    /// At least 400 ticks from start to arrival.
+    Far,
+    /// Below 100 ticks.
+    Near,
+    /// Refused with 18, as H is near.
+    Late,
+    /// Refused with 18, as the goal's cell is held from the first arrival on.
+    GoalHeld,
+    /// Refused with 18, as no motion leads out of the start until its cell is held.
+    ShutIn,
+}
+
+impl Wanted {
+    fn fits(self, answer: Answer, tick: usize) -> bool {
+        match self {
+            Wanted::Far => answer.number == 0 && answer.arrival as usize - tick >= 400,
+            Wanted::Near => answer.number == 0 && answer.arrival as usize - tick < 100,
+            Wanted::Late | Wanted::GoalHeld | Wanted::ShutIn => answer.number == 18,
+        }
+    }
+}
+
+/// What is lent for writing.
+#[derive(PartialEq)]
+struct Areas {
+    out: Vec<u8>,
+    work: Vec<u32>,
+}
+
+impl Areas {
+    fn new(states: usize) -> Areas {
+        Areas { out: vec![0; 18 + 5 * H], work: vec![0; states * (H + 1)] }
+    }
+}
+
+type Route = fn(&[u8], &[u8], u8, u16, u16, u16, u16, &mut [u8], &mut [u32]) -> Answer;
+
+fn call(route: Route, case: &Case, areas: &mut Areas) -> Answer {
+    route(black_box(&case.site), black_box(&case.board), 7, case.start, case.tick, case.goal, case.dwell, &mut areas.out, &mut areas.work)
+}
+
+/// A site with a board, of which cases are made.
+struct Hall {
+    corridor: bool,
+    site: Site,
+    file: Vec<u8>,
+    board: Vec<u8>,
+}
+
+impl Hall {
+    /// A kind of site, and one of the three kinds of boards.
+    fn new(rng: &mut Rng, kind: usize, held: usize) -> Hall {
+        let site = site(rng, kind);
+        let (percent, run) = [(9, (1, 4)), (9, (5, 60)), (1, (5, 60))][held];
+        let board = board(rng, &site, percent, run);
         let file = encode(&site);
+        Hall { corridor: kind == CORRIDOR, site, file, board }
+    }
+
+    /// Where the ticks of a state's cell lie on the board.
+    fn row(&self, state: usize) -> std::ops::Range<usize> {
+        let first = 4 + self.site.cell(state) * (H + 1);
+        first..first + H + 1
+    }
+
+    /// A start and a goal. In a corridor they are at its ends, or near each other.
+    fn ends(&self, rng: &mut Rng, wanted: Wanted) -> (usize, usize) {
+        if !self.corridor {
+            return (rng.below(STATES), rng.below(STATES));
+        }
+        if wanted == Wanted::Near {
+            let (start, away) = (rng.below(STATES), rng.range(0, 80));
+            return (start, (start + away).saturating_sub(40).min(STATES - 1));
+        }
+        (rng.below(10), STATES - 2 - 2 * rng.below(5))
+    }
+
+    /// The goal's cell is held up to a tick, if need be.
+    fn delay(&self, rng: &mut Rng, board: &mut [u8], tick: usize, goal: usize, dwell: u16) {
+        if !self.corridor || rng.percent(50) {
+            let until = rng.range(tick + 400, 900);
+            let row = &mut board[self.row(goal)];
+            row[..until].fill(200);
+            row[until..].fill(0);
+            if dwell > 0 && rng.percent(50) {
+                leave_gaps(rng, &mut row[..until], dwell);
+            }
+        }
+    }
+
+    fn hold_goal(&self, board: &mut [u8], start: usize, tick: usize, goal: usize, areas: &mut Areas) {
+        let first = call(plain::route, &self.case(board.to_vec(), start, tick, goal, 0), areas);
+        if first.number == 0 {
+            board[self.row(goal)][first.arrival as usize..].fill(200);
+        }
+    }
+
+    fn shut_in(&self, rng: &mut Rng, board: &mut [u8], start: usize, tick: usize) {
+        let until = tick + rng.range(1, 40);
+        board[self.row(start)][until] = 200;
+        for motion in self.site.motions.iter().filter(|motion| motion.from as usize == start) {
+            board[self.row(motion.to as usize)][tick + 1..until + motion.d as usize].fill(200);
+        }
+    }
+
+    fn case(&self, board: Vec<u8>, start: usize, tick: usize, goal: usize, dwell: u16) -> Case {
+        Case { site: self.file.clone(), board, start: start as u16, tick: tick as u16, goal: goal as u16, dwell }
+    }
+
+    /// A case, if the one tried is as it is wanted.
+    fn attempt(&self, rng: &mut Rng, wanted: Wanted, dwell: u16, areas: &mut Areas) -> Option<Case> {
+        let (start, goal) = self.ends(rng, wanted);
+        if !self.site.standing(goal) || self.site.cell(start) == self.site.cell(goal) {
+            return None;
+        }
+        let tick = match wanted {
+            Wanted::Near => rng.below(H),
+            Wanted::Late => rng.range(H - 100, H),
+            _ => rng.below(80),
+        };
+        let mut board = self.board.clone();
+        match wanted {
+            Wanted::Near | Wanted::Late => {}
+            Wanted::Far => self.delay(rng, &mut board, tick, goal, dwell),
+            Wanted::GoalHeld => self.hold_goal(&mut board, start, tick, goal, areas),
+            Wanted::ShutIn => self.shut_in(rng, &mut board, start, tick),
+        }
+        let held = board[4..].iter().filter(|&&byte| byte != 0).count();
+        if held * 10 > board.len() - 4 || board[self.row(start)][tick] != 0 {
+            return None;
+        }
+        let case = self.case(board, start, tick, goal, dwell);
+        wanted.fits(call(plain::route, &case, areas), tick).then_some(case)
+    }
+}
+
+/// A case on a kind of site and of board.
+fn case(rng: &mut Rng, kind: usize, held: usize, wanted: Wanted, dwell: u16, areas: &mut Areas) -> Case {
+    loop {
+        let hall = Hall::new(rng, kind, held);
         for _ in 0..20 {
-            let (start, goal) = match kind / 3 {
-                3 => (rng.below(10), STATES - 2 - 2 * rng.below(5)),
-                _ => (rng.below(STATES), rng.below(STATES)),
-            };
-            if !site.standing(goal) || site.cell(start) == site.cell(goal) {
-                continue;
-            }
-            let tick = rng.below(80);
-            let mut board = booked.clone();
-            if kind / 3 != 3 || rng.percent(50) {
-                let until = rng.range(tick + 400, 900);
-                let row = &mut board[4 + site.cell(goal) * (H + 1)..][..H + 1];
-                row[..until].fill(200);
-                row[until..].fill(0);
-                if dwell > 0 && rng.percent(50) {
-                    leave_gaps(rng, &mut row[..until], dwell);
-                }
-            }
-            let held = board[4..].iter().filter(|&&byte| byte != 0).count();
-            assert!(held * 10 <= board.len() - 4);
-            let case = Case { kind, site: file.clone(), board, start: start as u16, tick: tick as u16, goal: goal as u16, dwell };
-            let answer = plain::route(&case.site, &case.board, 7, case.start, case.tick, case.goal, dwell, out, work);
-            if answer.number == 0 && answer.arrival as usize - tick >= 400 {
+            if let Some(case) = hall.attempt(rng, wanted, dwell, areas) {
                 return case;
             }
         }
     }
 }
 
-type Route = fn(&[u8], &[u8], u8, u16, u16, u16, u16, &mut [u8], &mut [u32]) -> Answer;
+fn worst_case(rng: &mut Rng, kind: usize) -> Case {
+    let (site, board) = worst::case(rng, kind);
+    Case { site: encode(&site), board, start: 0, tick: 0, goal: site.states.len() as u16 - 1, dwell: 0 }
+}
 
 /// The time of one call, in microseconds, from areas cleared just before.
-fn time(route: Route, case: &Case, out: &mut [u8], work: &mut [u32]) -> (f64, Answer) {
-    out.fill(0);
-    work.fill(0);
+fn time(route: Route, case: &Case, areas: &mut Areas) -> (f64, Answer) {
+    areas.out.fill(0);
+    areas.work.fill(0);
     let began = Instant::now();
-    let answer = route(black_box(&case.site), black_box(&case.board), 7, case.start, case.tick, case.goal, case.dwell, out, work);
+    let answer = call(route, case, areas);
     (began.elapsed().as_secs_f64() * 1e6, answer)
 }
 
@@ -205,42 +336,79 @@ fn setting(name: &str, default: u64) -> u64 {
     std::env::var(name).map_or(default, |text| text.parse().unwrap_or_else(|_| panic!("{name} is no number")))
 }
 
-/// The routes of one dwell: each one timed and compared, and a line for each kind of site and board.
-fn measure(routes: usize, seed: u64, dwell: u16) {
-    let mut rng = Rng::new(seed);
-    let needed = STATES * (H + 1);
-    let (mut out, mut work) = (vec![0; 18 + 5 * H], vec![0; needed]);
-    let (mut other_out, mut other_work) = (out.clone(), work.clone());
-    let mut times: Vec<(Vec<f64>, Vec<f64>)> = vec![(vec![], vec![]); 12];
+/// The desk first.
+const PROGRAMS: [Route; 3] = [desk::route, plain::route, pull::route];
+
+/// What the desk and the two programs took, in microseconds.
+type Times = [Vec<f64>; 3];
+
+/// The time of each program on a case. The answers and areas must be equal.
+fn race(case: &Case, areas: &mut [Areas; 3]) -> [f64; 3] {
+    let mut times = Times::default();
+    let mut answers = [Answer::plain(0); 3];
+    // The middle of three turns counts, as other work disturbs single calls. The desk and the plain program take turns; the pull program comes last, so that
+    // these two are timed as they were before it was there.
+    for program in [0, 1, 0, 1, 0, 1, 2, 2, 2] {
+        let (took, answer) = time(PROGRAMS[program], case, &mut areas[program]);
+        times[program].push(took);
+        answers[program] = answer;
+        let same = program == 0 || (answer == answers[0] && areas[program] == areas[0]);
+        assert!(same, "from {} at {} to {}, dwell {}: {answers:?}, or the areas differ", case.start, case.tick, case.goal, case.dwell);
+    }
+    times.map(|mut turns| median(&mut turns))
+}
+
+fn line(name: &str, mut times: Times) {
+    let routes = times[0].len();
+    let [by_desk, by_plain, by_pull] = times.each_mut().map(|times| median(times));
+    let (to_plain, to_pull) = (by_desk / by_plain, by_desk / by_pull);
+    println!("{name:22} {routes:>6} {by_desk:>9.0} {by_plain:>9.0} {to_plain:>7.2} {by_pull:>9.0} {to_pull:>7.3}");
+}
+
+/// A table: the routes of all kinds in turn, each one timed and compared, then a line for each kind and, where it says something, one for all.
+fn measure(title: &str, names: &[String], routes: usize, areas: &mut [Areas; 3], mut case: impl FnMut(usize, &mut Areas) -> Case, all: bool) {
+    let mut times = vec![Times::default(); names.len()];
     for i in 0..routes {
-        let case = case(&mut rng, i % 12, dwell, &mut out, &mut work);
-        // The programs take turns, and the middle of three turns counts, as other work disturbs single calls.
-        let (mut desk_times, mut plain_times) = (vec![], vec![]);
-        for _ in 0..3 {
-            let (by_desk, answer) = time(desk::route, &case, &mut out, &mut work);
-            let (by_plain, wanted) = time(plain::route, &case, &mut other_out, &mut other_work);
-            assert!(answer == wanted && out == other_out && work == other_work, "dwell {dwell}, route {i} differs: {answer:?}, {wanted:?}");
-            desk_times.push(by_desk);
-            plain_times.push(by_plain);
+        let kind = i % names.len();
+        let took = race(&case(kind, &mut areas[0]), areas);
+        times[kind].iter_mut().zip(took).for_each(|(times, took)| times.push(took));
+    }
+    println!("\n{title}\n{:22} {:>6} {:>9} {:>9} {:>7} {:>9} {:>7}", "site", "routes", "desk", "plain", "ratio", "pull", "ratio");
+    let sum: Times = std::array::from_fn(|program| times.iter().flat_map(|times| times[program].clone()).collect());
+    for (name, times) in names.iter().zip(times).filter(|(_, times)| !times[0].is_empty()) {
+        line(name, times);
+    }
+    if all {
+        line("all", sum);
+    }
+}
+
+/// The first four sites, each in three ways.
+fn names(ways: [&str; 3]) -> Vec<String> {
+    SITES[..4].iter().flat_map(|site| ways.map(|way| format!("{site}, {way}"))).collect()
+}
+
+/// The tables of routes that are granted, of those that are refused, each for every dwell, and of the worst sites.
+fn measure_routes(routes: usize, seed: u64) {
+    let mut areas = [(); 3].map(|()| Areas::new(STATES));
+    for (title, wanted) in [("at least 400 ticks", Wanted::Far), ("below 100 ticks", Wanted::Near)] {
+        for dwell in DWELLS {
+            let mut rng = Rng::new(seed);
+            let case = |kind, areas: &mut Areas| case(&mut rng, kind / 3, kind % 3, wanted, dwell, areas);
+            measure(&format!("{title}, dwell {dwell}"), &names(BOARDS), routes, &mut areas, case, true);
         }
-        times[case.kind].0.push(median(&mut desk_times));
-        times[case.kind].1.push(median(&mut plain_times));
     }
-    println!("\ndwell {dwell}\n{:22} {:>6} {:>9} {:>9} {:>7}", "site, board", "routes", "desk", "plain", "ratio");
-    let mut all = (vec![], vec![]);
-    for (kind, (desk_times, plain_times)) in times.iter_mut().enumerate().filter(|(_, times)| !times.0.is_empty()) {
-        let (by_desk, by_plain) = (median(desk_times), median(plain_times));
-        println!(
-            "{:22} {:>6} {by_desk:>9.0} {by_plain:>9.0} {:>7.2}",
-            format!("{}, {}", SITES[kind / 3], BOARDS[kind % 3]),
-            desk_times.len(),
-            by_desk / by_plain
-        );
-        all.0.extend_from_slice(desk_times);
-        all.1.extend_from_slice(plain_times);
+    for dwell in DWELLS {
+        let mut rng = Rng::new(seed);
+        let case = |kind, areas: &mut Areas| {
+            let held = rng.below(BOARDS.len());
+            case(&mut rng, kind / 3, held, [Wanted::Late, Wanted::GoalHeld, Wanted::ShutIn][kind % 3], dwell, areas)
+        };
+        measure(&format!("refused with 18, dwell {dwell}"), &names(WHYS), routes, &mut areas, case, true);
     }
-    let (by_desk, by_plain) = (median(&mut all.0), median(&mut all.1));
-    println!("{:22} {:>6} {by_desk:>9.0} {by_plain:>9.0} {:>7.2}", "all", all.0.len(), by_desk / by_plain);
+    let mut rng = Rng::new(seed);
+    let mut areas = [(); 3].map(|()| Areas::new(256));
+    measure("worst sites", &worst::NAMES.map(str::to_string), routes, &mut areas, |kind, _| worst_case(&mut rng, kind), false);
 }
 
 type Open = fn(&[u8], &mut [u8]) -> Answer;
@@ -276,9 +444,9 @@ fn measure_checks(sites: usize, seed: u64) {
 
 fn main() {
     let (routes, sites, seed) = (setting("ROUTES", 1_000) as usize, setting("SITES", 1_000) as usize, setting("SEED", 1));
-    println!("{HOW}\n\n{routes} routes for each dwell, {sites} sites, seed {seed}; microseconds for the whole call, checks and zeroed words included, median");
-    for dwell in DWELLS.into_iter().filter(|_| routes > 0) {
-        measure(routes, seed, dwell);
+    println!("{HOW}\n\n{routes} routes for each table, {sites} sites, seed {seed}; microseconds for the whole call, checks and zeroed words included, median");
+    if routes > 0 {
+        measure_routes(routes, seed);
     }
     if sites > 0 {
         measure_checks(sites, seed);
