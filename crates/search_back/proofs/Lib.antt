@@ -1,3 +1,3 @@
-pub mod ArrivalLaws
+pub mod HitLaws
+pub mod WalkLaws
 pub mod WordLaws
-pub mod SetsLaws

@@ -3,105 +3,137 @@
 use Prim.Native.Nat.{ℕ, zero, suc, _+_, _-_, _*_, _%_, _^_, _≤_, _<_, min}
 use native.Mathlib.Omega.{arith}
 use mathlib.Core.Path.{_≡_, refl, ap, _∙_}
-use mathlib.Core.List.{List, [], _∷_}
+use mathlib.Core.Bool.{Bool}
+use mathlib.Core.List.{List}
 use lib.Dec.{eqb}
 use lib.ListN.{length, getD, replicate, getD-replicate}
 use borrow.Author.Tests.{eqb-true, eqb-false, eq-eqb, ne-eqb}
 use Rattle.meaning.proofs.BasicsLaws.{decide}
-use Rattle.search_sizes.specs.Sizes.{stateRows, lastState}
+use Rattle.search_sizes.specs.Sizes.{stateRows, motionRows}
 use Rattle.search_ticks.specs.Rows.{Words, total, has}
-use Rattle.search_ticks.proofs.RowLaws.{total-bound}
-use Rattle.search_site.specs.Arrays.{fromAt, Motions}
-use Rattle.search_step.specs.Sets.{Closed}
-use Rattle.search_spread.specs.Spread.{Tried, Progress, more, quiet, UnnotedBut}
+use Rattle.search_ticks.proofs.RowLaws.{zeros-at, total-bound}
+use Rattle.search_site.specs.Arrays.{fromAt, Leads}
+use Rattle.search_step.specs.Sets.{Closed, Within, Right, Ready}
+use Rattle.search_lists.specs.Lists.{Listed}
+use Rattle.search_spread.specs.Spread.{Stepped, Tried, StillTried, Progress, more, quiet, UnnotedBut}
 use Rattle.search_fixpoint.specs.Turns.{NoneGrown, inTurn}
 
-module _ (n k : ℕ) (st mv fr al : List ℕ) where
-  -- at the start growth is noted everywhere
-  pub tried-start : (l : List ℕ) → Tried n k st mv fr al (replicate stateRows 1) (has l)
-  tried-start l s h e = absurd (omega (arith, getD-replicate {A = ℕ} stateRows s 1 0 h))
+-- at the start no motion is known, and growth is noted everywhere
+abbrev pub noneKnown : List ℕ
+noneKnown = replicate motionRows 0
+
+abbrev pub allNoted : List ℕ
+allNoted = replicate stateRows 1
+
+module _ (n k : ℕ) (st mv sw : List ℕ) (g : ℕ → ℕ → Bool) (b : ℕ) where
+  ready-start : (al : List ℕ) → Ready g k b mv sw noneKnown al
+  ready-start al m lt known i h = absurd (known (zeros-at motionRows m))
+
+  tried-start : (l : List ℕ) → n ≤ stateRows → Tried n k st mv sw g b allNoted (has l)
+  tried-start l few s h e = absurd (omega (arith, getD-replicate {A = ℕ} stateRows s 1 0 (omega arith)))
 
   -- no growth is noted
-  pub tried-closed : (g l : List ℕ) → n ≤ stateRows → Motions k mv → ((s : ℕ) → s < stateRows → getD g s 0 ≡ 0) → Tried n k st mv fr al g (has l) → Closed n k st mv fr al (has l)
-  tried-closed g l few ranges none c =
-      (λ s h. c s (omega arith) (none s (omega arith)) .0 h, λ m h. c (fromAt mv m) (ranges .from m h) (none (fromAt mv m) (ranges .from m h)) .1 m h refl)
+  tried-closed : (noted l : List ℕ) → Leads n k mv → NoneGrown n noted → Tried n k st mv sw g b noted (has l) → Closed n k st mv sw g b (has l)
+  tried-closed noted l leads none c =
+      (λ s h. c s h (none s h) .0, λ m h. c (fromAt mv m) (leads .from m h) (none (fromAt mv m) (leads .from m h)) .1 m h refl)
 
-pub none-more : (g : List ℕ) (s : ℕ) → ((x : ℕ) → x < s → getD g x 0 ≡ 0) → getD g s 0 ≡ 0 → (x : ℕ) → x < s + 1 → getD g x 0 ≡ 0
-none-more g s h e x lt =
+-- all steps from the start on are done, and no growth is noted
+pub settled : {cells n k b : ℕ} {st mv sw tab al₀ l₀ known al l : List ℕ} (ls noted : List ℕ) → n ≤ stateRows → Leads n k mv → NoneGrown n noted
+    → Stepped cells n k b st mv sw tab noneKnown al₀ l₀ known al l (λ g. Closed n k st mv sw g b) (StillTried n k st mv sw ls b allNoted l₀ noted l)
+    → (g : ℕ → ℕ → Bool) → Right g cells n k b st mv sw tab → Listed 0 k mv ls → Within (Closed n k st mv sw g b) l₀ l × Closed n k st mv sw g b (has l)
+settled {n = n} {k = k} {b = b} {st = st} {mv = mv} {sw = sw} {al₀ = al₀} {l₀ = l₀} {l = l} ls noted few leads none steps g right all =
+    let (ready, (within, tried)) = steps .right g right (ready-start n k st mv sw g b al₀) in
+    (within, tried-closed n k st mv sw g b noted l leads none (tried all (tried-start n k st mv sw g b l₀ few)))
+
+pub none-more : (noted : List ℕ) (s : ℕ) → NoneGrown s noted → getD noted s 0 ≡ 0 → NoneGrown (s + 1) noted
+none-more noted s h e x lt =
     decide (eqb x s)
-    (λ u. ap (λ (y : ℕ). getD g y 0) (eqb-true x s u) ∙ e)
+    (λ u. ap (λ (y : ℕ). getD noted y 0) (eqb-true x s u) ∙ e)
     (λ u. let ne : x ≡ s → ⊥ = eqb-false x s u in h x (omega arith))
 
 -- ---- the states in turn
 
 -- up, or down
-by-turn : {X : Type 0} (turn : ℕ) → (((s : ℕ) → inTurn s turn ≡ s) → X) → (((s : ℕ) → inTurn s turn ≡ lastState - s) → X) → X
-by-turn turn up down = decide (eqb (turn % 2) 0) (λ u. up (λ s. rw u refl)) (λ u. down (λ s. rw u refl))
+by-turn : {X : Type 0} (n turn : ℕ) → (((s : ℕ) → inTurn n s turn ≡ s) → X) → (((s : ℕ) → inTurn n s turn ≡ n - 1 - s) → X) → X
+by-turn n turn up down = decide (eqb (turn % 2) 0) (λ u. up (λ s. rw u refl)) (λ u. down (λ s. rw u refl))
 
-pub turn-even : (s turn : ℕ) → turn % 2 ≡ 0 → s ≡ inTurn s turn
-turn-even s turn e = rw (eq-eqb (turn % 2) 0 e) refl
+pub turn-even : (n s turn : ℕ) → turn % 2 ≡ 0 → s ≡ inTurn n s turn
+turn-even n s turn e = rw (eq-eqb (turn % 2) 0 e) refl
 
-pub turn-odd : (s turn : ℕ) → (turn % 2 ≡ 0 → ⊥) → lastState - s ≡ inTurn s turn
-turn-odd s turn ne = rw (ne-eqb (turn % 2) 0 ne) refl
+pub turn-odd : (n s turn : ℕ) → (turn % 2 ≡ 0 → ⊥) → n - 1 - s ≡ inTurn n s turn
+turn-odd n s turn ne = rw (ne-eqb (turn % 2) 0 ne) refl
 
 -- no growth is noted of the states whose turn came before s
-abbrev pub Quiet : ℕ → ℕ → List ℕ → Type 0
-Quiet turn s g = (x : ℕ) → x < stateRows → inTurn x turn < s → getD g x 0 ≡ 0
+abbrev pub Quiet : ℕ → ℕ → ℕ → List ℕ → Type 0
+Quiet n turn s noted = (x : ℕ) → x < n → inTurn n x turn < s → getD noted x 0 ≡ 0
 
-pub quiet-more : (g g′ : List ℕ) (turn s r : ℕ) → s < stateRows → r ≡ inTurn s turn → Quiet turn s g → UnnotedBut g g′ r → Quiet turn (s + 1) g′
-quiet-more g g′ turn s r h is before one x small early =
+pub quiet-more : (noted noted′ : List ℕ) (n turn s r : ℕ) → s < n → r ≡ inTurn n s turn → Quiet n turn s noted → UnnotedBut noted noted′ r → Quiet n turn (s + 1) noted′
+quiet-more noted noted′ n turn s r h is before one x small early =
     decide (eqb x r)
-    (λ u. ap (λ (y : ℕ). getD g′ y 0) (eqb-true x r u) ∙ one .here)
+    (λ u. ap (λ (y : ℕ). getD noted′ y 0) (eqb-true x r u) ∙ one .here)
     (λ u.
     let ne : x ≡ r → ⊥ = eqb-false x r u in
     one .others x ne ∙ before x small
-    (by-turn turn
+    (by-turn n turn
     (λ up. let at-x = up x in let at-s = up s in other ne at-x at-s)
     (λ down. let at-x = down x in let at-s = down s in below ne at-x at-s)))
   where
-    other : (x ≡ r → ⊥) → inTurn x turn ≡ x → inTurn s turn ≡ s → inTurn x turn < s
+    other : (x ≡ r → ⊥) → inTurn n x turn ≡ x → inTurn n s turn ≡ s → inTurn n x turn < s
     other ne at-x at-s = omega arith
 
-    below : (x ≡ r → ⊥) → inTurn x turn ≡ lastState - x → inTurn s turn ≡ lastState - s → inTurn x turn < s
+    below : (x ≡ r → ⊥) → inTurn n x turn ≡ n - 1 - x → inTurn n s turn ≡ n - 1 - s → inTurn n x turn < s
     below ne at-x at-s = omega arith
 
-pub quiet-all : (g : List ℕ) (turn s : ℕ) → stateRows ≤ s → Quiet turn s g → NoneGrown g
-quiet-all g turn s past before x small =
-    before x small (by-turn turn (λ up. let at-x = up x in low at-x) (λ down. let at-x = down x in high at-x))
+pub quiet-all : (noted : List ℕ) (n turn s : ℕ) → n ≤ s → Quiet n turn s noted → NoneGrown n noted
+quiet-all noted n turn s past before x small =
+    before x small (by-turn n turn (λ up. let at-x = up x in low at-x) (λ down. let at-x = down x in high at-x))
   where
-    low : inTurn x turn ≡ x → inTurn x turn < s
+    low : inTurn n x turn ≡ x → inTurn n x turn < s
     low e = omega arith
 
-    high : inTurn x turn ≡ lastState - x → inTurn x turn < s
+    high : inTurn n x turn ≡ n - 1 - x → inTurn n x turn < s
     high e = omega arith
 
 -- ---- the end
 
-pub noted-some : (g : List ℕ) (s : ℕ) → (getD g s 0 ≡ 0 → ⊥) → 0 < total g
-unfolding total
-noted-some [] s some = absurd (some refl)
-noted-some (x ∷ g) zero some = omega arith
-noted-some (x ∷ g) (suc s) some = omega (arith, noted-some g s some)
+-- the sum of the first n notes
+unfoldable pub notes : ℕ → List ℕ → ℕ
+notes zero noted = 0
+notes (suc n) noted = getD noted n 0 + notes n noted
 
-noted-none : (g : List ℕ) → ((s : ℕ) → s < length g → getD g s 0 ≡ 0) → total g ≡ 0
-unfolding total
-noted-none [] none = refl
-noted-none (x ∷ g) none = omega (arith, none 0 (omega arith), noted-none g (λ s h. none (suc s) (omega arith)))
+notes-none : (n : ℕ) (noted : List ℕ) → NoneGrown n noted → notes n noted ≡ 0
+unfolding notes
+notes-none zero noted none = refl
+notes-none (suc n) noted none = omega (arith, none n (omega arith), notes-none n noted (λ s h. none s (omega arith)))
+
+none-notes : (n : ℕ) (noted : List ℕ) → notes n noted ≡ 0 → NoneGrown n noted
+unfolding notes
+none-notes zero noted e s h = absurd (omega arith)
+none-notes (suc n) noted e s h =
+    decide (eqb s n)
+    (λ u. let same : s ≡ n = eqb-true s n u in rw same (omega arith))
+    (λ u. let ne : s ≡ n → ⊥ = eqb-false s n u in none-notes n noted (omega arith) s (omega arith))
+
+notes-some : (n : ℕ) (noted : List ℕ) → (NoneGrown n noted → ⊥) → 0 < notes n noted
+notes-some n noted some = decide (eqb (notes n noted) 0)
+    (λ u. absurd (some (none-notes n noted (eqb-true (notes n noted) 0 u))))
+    (λ u. omega (arith, eqb-false (notes n noted) 0 u))
 
 -- the bits still unset, as a number
 unfoldable pub unset : List ℕ → ℕ
 unset l = length l * 2 ^ 64 - total l
 
 -- a turn sets a bit, or it is the last one
-abbrev pub left : List ℕ → List ℕ → ℕ
-left l g = 2 * unset l + min 1 (total g)
+unfoldable pub left : ℕ → List ℕ → List ℕ → ℕ
+left n l noted = 2 * unset l + min 1 (notes n noted)
 
-pub turn-less : (l l′ g g′ : List ℕ) → length l′ ≡ length l → Words l′ → 0 < total g → length g′ ≡ stateRows → Progress l l′ (NoneGrown g′) → left l′ g′ < left l g
-unfolding unset
-turn-less l l′ g g′ sized fit some size (more h) =
+pub turn-less : (n : ℕ) (l l′ noted noted′ : List ℕ) → length l′ ≡ length l → Words l′ → (NoneGrown n noted → ⊥) → Progress l l′ (NoneGrown n noted′) → left n l′ noted′ < left n l noted
+unfolding left unset
+turn-less n l l′ noted noted′ sized fit some (more h) =
     let e = ap (λ (x : ℕ). x * 2 ^ 64) sized in
     omega (arith, total-bound l′ (2 ^ 64) fit)
-turn-less l l′ g g′ sized fit some size (quiet e none) =
-    let z = noted-none g′ (λ s h. none s (omega arith)) in
+turn-less n l l′ noted noted′ sized fit some (quiet e none) =
+    let z = notes-none n noted′ none in
+    let s = notes-some n noted some in
     let same = ap unset e in
     omega arith

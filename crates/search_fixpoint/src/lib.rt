@@ -1,80 +1,91 @@
-// The closure of the reached pairs under waits and motions, state by state until none is new: only states whose sets have grown, and only their own motions.
+// The closure of the reached pairs under the waits and motions that end in a block of ticks, state by state until none is new: only states
+// whose sets have grown, and only their own motions.
 use search_sizes::LISTED;
+use search_sizes::MOTIONS;
 use search_sizes::STATES;
 ghost use mathlib.Core.Path.{_≡_};
-ghost use mathlib.Core.Bool.{true, false};
-ghost use Prim.Native.Nat.{_*_, _≤_, _<_};
+ghost use mathlib.Core.Bool.{Bool, true, false};
+ghost use Prim.Native.Nat.{ℕ, _*_, _≤_, _<_};
 ghost use lib.ListN.{length};
-ghost use Rattle.search_sizes.specs.Sizes.{rowWords, stateRows, freeWords, reachedWords};
-ghost use Rattle.search_ticks.specs.Rows.{has, total};
-ghost use Rattle.search_site.specs.Arrays.{States, Motions};
-ghost use Rattle.search_step.specs.Sets.{Closed, Going, Settled};
+ghost use Rattle.search_sizes.specs.Sizes.{blockWords, blocks, rowWords, stateRows};
+ghost use Rattle.search_ticks.specs.Rows.{has};
+ghost use Rattle.search_site.specs.Arrays.{States, Motions, CellsBelow, Leads};
+ghost use Rattle.search_site.specs.Decoded.{Sweeps};
+ghost use Rattle.search_step.specs.Sets.{Closed, Within, Kept, Room, Right};
 ghost use Rattle.search_lists.specs.Lists.{Listed};
-ghost use Rattle.search_spread.specs.Spread.{Tried, Progress};
+ghost use Rattle.search_spread.specs.Spread.{Stepped, StillTried, Progress};
 ghost use Rattle.search_fixpoint.specs.Turns.{NoneGrown, inTurn};
 
-const LAST_STATE: usize = STATES - 1;
-
-// State s of 256, counted from the other end where the turn is odd.
-fn in_turn(s: usize, turn: usize) -> usize
-    requires { ⌜ s < stateRows ⌝ }
-    ensures { λ r. ⌜ (r ≡ inTurn s turn) × (r < stateRows) ⌝ }
+// State s of n, counted from the other end where the turn is odd.
+fn in_turn(s: usize, turn: usize, n: usize) -> usize
+    requires { ⌜ s < n ⌝ }
+    ensures { λ r. ⌜ (r ≡ inTurn n s turn) × (r < n) ⌝ }
 {
     if turn % 2 == 0 {
         return s;
     }
-    LAST_STATE - s
+    n - 1 - s
 }
 
 // Tries every state, up or down in turn.
 fn spread_all(
     states: &[u16],
     motions: &[u16],
-    frees: &[u64],
-    allowed: &[u64],
+    sweeps: &[u8],
+    tab: &[u64],
+    allowed: &mut [u64],
+    known: &mut [u8; MOTIONS],
     reached: &mut [u64],
     lists: &[u16; LISTED],
     grown: &mut [u64; STATES],
+    cells: usize,
     n: usize,
     k: usize,
     turn: usize,
+    block: usize,
 )
-    requires { ⌜ States n (now states) × (Motions k (now motions) × (length (now grown) ≡ stateRows)) ⌝ }
-    requires { ⌜ (freeWords ≤ length (now frees)) × ((k * rowWords ≤ length (now allowed)) × (reachedWords ≤ length (now reached))) ⌝ }
-    ensures { λ _. ⌜ Going (Closed n k (now (states .entry)) (now (motions .entry)) (now (frees .entry)) (now (allowed .entry)))
-        (now (reached .entry)) (now (reached .exit)) ⌝ }
+    requires { ⌜ States n (now states) × (CellsBelow cells n (now states) × (Motions k (now motions) × Leads n k (now motions))) ⌝ }
+    requires { ⌜ Sweeps cells k (now motions) (now sweeps) × (Room cells k (now motions) (now tab) × (block < blocks)) ⌝ }
+    requires { ⌜ (k * blockWords ≤ length (now allowed)) × ((n * rowWords ≤ length (now reached)) × (length (now grown) ≡ stateRows)) ⌝ }
+    ensures { λ _. ⌜ Stepped cells n k block (now (states .entry)) (now (motions .entry)) (now (sweeps .entry)) (now (tab .entry))
+        (now (known .entry)) (now (allowed .entry)) (now (reached .entry)) (now (known .exit)) (now (allowed .exit)) (now (reached .exit))
+        (λ g. Closed n k (now (states .entry)) (now (motions .entry)) (now (sweeps .entry)) g block)
+        (StillTried n k (now (states .entry)) (now (motions .entry)) (now (sweeps .entry)) (now (lists .entry)) block
+        (now (grown .entry)) (now (reached .entry)) (now (grown .exit)) (now (reached .exit))) ⌝ }
     ensures { λ _. ⌜ length (now (grown .exit)) ≡ stateRows ⌝ }
-    ensures { λ _. ⌜ (Listed k (now (motions .entry)) (now (lists .entry))
-        → Tried n k (now (states .entry)) (now (motions .entry)) (now (frees .entry)) (now (allowed .entry)) (now (grown .entry)) (has (now (reached .entry)))
-        → Tried n k (now (states .entry)) (now (motions .entry)) (now (frees .entry)) (now (allowed .entry)) (now (grown .exit)) (has (now (reached .exit)))) ⌝ }
-    ensures { λ _. ⌜ Progress (now (reached .entry)) (now (reached .exit)) (NoneGrown (now (grown .exit))) ⌝ }
+    ensures { λ _. ⌜ Progress (now (reached .entry)) (now (reached .exit)) (NoneGrown n (now (grown .exit))) ⌝ }
 {
     let mut s = 0;
-    while s < STATES {
-        let x = in_turn(s, turn);
+    while s < n {
+        let x = in_turn(s, turn, n);
         search_spread::spread_one(
             states,
             motions,
-            frees,
+            sweeps,
+            tab,
             allowed,
+            known,
             reached,
             lists,
             grown,
+            cells,
             n,
             k,
             x,
+            block,
         );
         s += 1;
     }
 }
 
-// No set has grown.
-fn none_grown(grown: &[u64; STATES]) -> bool
-    ensures { λ r. ⌜ (r ≡ true → NoneGrown (now (grown .entry))) ⌝ }
-    ensures { λ r. ⌜ (r ≡ false → 0 < total (now (grown .entry))) ⌝ }
+// No set of the n states has grown.
+fn none_grown(grown: &[u64; STATES], n: usize) -> bool
+    requires { ⌜ n ≤ stateRows ⌝ }
+    ensures { λ r. ⌜ (r ≡ true → NoneGrown n (now (grown .entry))) ⌝ }
+    ensures { λ r. ⌜ (r ≡ false → NoneGrown n (now (grown .entry)) → ⊥) ⌝ }
 {
     let mut s = 0;
-    while s < STATES {
+    while s < n {
         if grown[s] != 0 {
             return false;
         }
@@ -83,39 +94,52 @@ fn none_grown(grown: &[u64; STATES]) -> bool
     true
 }
 
-// All waits and all motions until nothing new is set: the states whose sets have grown, up and down in turn.
+// All waits and all motions that end in the block until nothing new is set: the states whose sets have grown, up and down in turn.
 pub fn settle(
     states: &[u16],
     motions: &[u16],
-    frees: &[u64],
-    allowed: &[u64],
+    sweeps: &[u8],
+    tab: &[u64],
+    allowed: &mut [u64],
     reached: &mut [u64],
+    lists: &[u16; LISTED],
+    cells: usize,
     n: usize,
     k: usize,
+    block: usize,
 )
-    requires { ⌜ States n (now states) × Motions k (now motions) ⌝ }
-    requires { ⌜ (freeWords ≤ length (now frees)) × ((k * rowWords ≤ length (now allowed)) × (reachedWords ≤ length (now reached))) ⌝ }
-    ensures { λ _. ⌜ Settled (Closed n k (now (states .entry)) (now (motions .entry)) (now (frees .entry)) (now (allowed .entry)))
-        (now (reached .entry)) (now (reached .exit)) ⌝ }
+    requires { ⌜ States n (now states) × (CellsBelow cells n (now states) × (Motions k (now motions) × Leads n k (now motions))) ⌝ }
+    requires { ⌜ Sweeps cells k (now motions) (now sweeps) × (Room cells k (now motions) (now tab) × (block < blocks)) ⌝ }
+    requires { ⌜ (k * blockWords ≤ length (now allowed)) × (n * rowWords ≤ length (now reached)) ⌝ }
+    ensures { λ _. ⌜ Kept block (now (reached .entry)) (now (reached .exit)) ⌝ }
+    ensures { λ _. ⌜ length (now (allowed .exit)) ≡ length (now (allowed .entry)) ⌝ }
+    ensures { λ _. ⌜ ((g : ℕ → ℕ → Bool) → Right g cells n k block (now (states .entry)) (now (motions .entry)) (now (sweeps .entry)) (now (tab .entry))
+        → Listed 0 k (now (motions .entry)) (now (lists .entry))
+        → Within (Closed n k (now (states .entry)) (now (motions .entry)) (now (sweeps .entry)) g block) (now (reached .entry)) (now (reached .exit))
+        × Closed n k (now (states .entry)) (now (motions .entry)) (now (sweeps .entry)) g block (has (now (reached .exit)))) ⌝ }
 {
-    let lists = search_lists::lists_of(motions, k);
+    let mut known = [0u8; MOTIONS];
     let mut grown = [1u64; STATES];
     let mut turn: usize = 0;
     loop {
-        if none_grown(&grown) {
+        if none_grown(&grown, n) {
             return;
         }
         spread_all(
             states,
             motions,
-            frees,
+            sweeps,
+            tab,
             allowed,
+            &mut known,
             reached,
-            &lists,
+            lists,
             &mut grown,
+            cells,
             n,
             k,
             turn,
+            block,
         );
         turn = (turn + 1) % 2;
     }

@@ -3,25 +3,25 @@
 use Prim.Native.Nat.{ℕ, zero, suc, _+_, _-_, _*_, _/_, _%_, _^_, _≤_, _<_, min}
 use native.Mathlib.Nat.{pow-suc, add-zero, mul-le-mul-right, suc-mul}
 use native.Mathlib.Omega.{arith}
-use mathlib.Core.Path.{_≡_, sym, ap, ap₂, _∙_}
-use mathlib.Core.Bool.{Bool, false, _&&_, and-true}
+use mathlib.Core.Path.{_≡_, refl, sym, ap, ap₂, subst, _∙_}
+use mathlib.Core.Bool.{and-true}
 use mathlib.Core.List.{List}
+use lib.Bits.{bitOr}
 use lib.Pow.{pow-mono}
-use lib.Dec.{ltb, leb, eqb}
-use lib.ListN.{length, getD, set, replicate, length-replicate}
-use borrow.Author.Tests.{ltb-true, ltb-false, le-leb, eqb-true, eqb-false}
-use Rattle.meaning.specs.Limits.{horizonLimit, header}
+use lib.Dec.{ltb, eqb}
+use lib.ListN.{length, getD, set}
+use borrow.Author.Tests.{ltb-true, ltb-false, lt-ltb, le-leb, lt-leb, eqb-true, eqb-false}
+use Rattle.meaning.specs.Limits.{header}
 use Rattle.meaning.specs.Basics.{every}
 use Rattle.meaning.specs.Site.{Site}
 use Rattle.meaning.specs.Board.{free}
 use Rattle.meaning.proofs.BasicsLaws.{decide}
-use Rattle.search_sizes.specs.Sizes.{rowTicks, freeWords}
+use Rattle.search_sizes.specs.Sizes.{blockTicks, windowTicks}
 use Rattle.search_ticks.specs.Bits.{odd, bit}
-use Rattle.search_ticks.specs.Rows.{has, ZeroFrom, Changed, rowsFree}
-use Rattle.search_free.specs.Frees.{freeBit, freeWord, freeTo}
-use Rattle.search_ticks.proofs.BitLaws.{odd-of, even-of, bit-past}
-use Rattle.search_ticks.proofs.RowLaws.{empty-row, mapRow, map-turn}
-use Rattle.search_ticks.proofs.SetLaws.{row-changed}
+use Rattle.search_ticks.specs.Rows.{at, ZeroFrom, Put}
+use Rattle.search_ticks.proofs.BitLaws.{or-zero, odd-of, even-of, bit-past}
+use Rattle.search_ticks.proofs.RowLaws.{mapRow, map-turn, put-done}
+use Rattle.search_free.specs.Frees.{freeBit, freeWord, freeTo, FreeBlock}
 
 -- ---- a word
 
@@ -29,7 +29,7 @@ bit-small : (x : ℕ) → freeBit x < 2
 unfolding freeBit
 bit-small x = decide (eqb x 0) (λ e. rw e (omega arith)) (λ e. rw e (omega arith))
 
-free-small : (b : List ℕ) (n s : ℕ) → freeWord b s n < 2 ^ n
+pub free-small : (b : List ℕ) (n s : ℕ) → freeWord b s n < 2 ^ n
 unfolding freeWord
 free-small b zero s = omega arith
 free-small b (suc n) s = omega (arith, free-small b n (suc s), bit-small (getD b s 0), pow-suc 2 n)
@@ -41,7 +41,7 @@ odd-bit : (x y : ℕ) → odd (x * 2 + freeBit y) ≡ eqb y 0
 unfolding freeBit
 odd-bit x y = decide (eqb y 0) (λ e. rw e (odd-of (x * 2 + 1) (omega arith))) (λ e. rw e (even-of (x * 2 + 0) (omega arith)))
 
-free-bits : (b : List ℕ) (n s i : ℕ) → i < n → bit (freeWord b s n) i ≡ eqb (getD b (s + i) 0) 0
+pub free-bits : (b : List ℕ) (n s i : ℕ) → i < n → bit (freeWord b s n) i ≡ eqb (getD b (s + i) 0) 0
 unfolding bit freeWord
 free-bits b zero s i h = absurd (omega arith)
 free-bits b (suc n) s zero h = odd-bit (freeWord b (suc s) n) (getD b s 0) ∙ ap (λ (x : ℕ). eqb (getD b x 0) 0) (sym (add-zero s))
@@ -70,6 +70,16 @@ free-all b s n left w h e =
     e ∙ ap₂ (λ (x y : ℕ). freeWord b x y) p q
 
 -- bytes of 0 alone
+pub zeros-none : (b : List ℕ) (s : ℕ) → ZeroFrom b s 0
+zeros-none b s j h = absurd (omega arith)
+
+pub zeros-more : (b : List ℕ) (s i all : ℕ) → (all ≡ 0 → ZeroFrom b s i) → bitOr all (getD b (s + i) 0) ≡ 0 → ZeroFrom b s (i + 1)
+zeros-more b s i all h e j lt =
+    let both = or-zero all (getD b (s + i) 0) e in
+    decide (eqb j i)
+    (λ u. let same : j ≡ i = eqb-true j i u in rw same (both .1))
+    (λ u. let other : j ≡ i → ⊥ = eqb-false j i u in h (both .0) j (omega arith))
+
 pub zero-all : (b : List ℕ) (s i all : ℕ) → 64 ≤ i → (all ≡ 0 → ZeroFrom b s i) → all ≡ 0 → ZeroFrom b s 64
 zero-all b s i all most h e j lt = h e j (omega arith)
 
@@ -88,92 +98,93 @@ zero-full b s n most few h =
     let same : n ≡ 64 = omega arith in
     rw same (omega (arith, zero-word b 64 s h))
 
--- ---- a row: word i has the ticks from 64 i on of the first `width`
+-- ---- the second half of a row: word i has the ticks from 256 * block + 64 * i on of the first `width`
 
-unfoldable pub freeRowWord : List ℕ → ℕ → ℕ → ℕ → ℕ → ℕ
-freeRowWord b s width i w = freeWord b (s + min (i * 64) width) (min (i * 64 + 64) width - min (i * 64) width)
+unfoldable pub freeRowWord : List ℕ → ℕ → ℕ → ℕ → ℕ → ℕ → ℕ
+freeRowWord b s width block i w =
+    freeWord b (s + min (block * 256 + i * 64) width) (min (block * 256 + i * 64 + 64) width - min (block * 256 + i * 64) width)
 
-pub free-turn : (b : List ℕ) (s width a i : ℕ) (l w : List ℕ) (lo hi y : ℕ) → i < 16 → lo ≡ min (i * 64) width → hi ≡ min (i * 64 + 64) width
-    → y ≡ freeWord b (s + lo) (hi - lo) → mapRow (freeRowWord b s width) a (16 - i) i l ≡ w
-    → mapRow (freeRowWord b s width) a (16 - (i + 1)) (i + 1) (set l (a + i) y) ≡ w
+pub free-turn : (b : List ℕ) (s width block a i : ℕ) (l w : List ℕ) (lo hi y : ℕ) → i < 4
+    → lo ≡ min (block * 256 + i * 64) width → hi ≡ min (block * 256 + i * 64 + 64) width → y ≡ freeWord b (s + lo) (hi - lo)
+    → mapRow (freeRowWord b s width block) a (4 - i) i l ≡ w
+    → mapRow (freeRowWord b s width block) a (4 - (i + 1)) (i + 1) (set l (a + i) y) ≡ w
 unfolding freeRowWord
-free-turn b s width a i l w lo hi y h p q e g = rw (e, p, q) (map-turn (freeRowWord b s width) a i l w h g)
+free-turn b s width block a i l w lo hi y h p q e g = rw (e, p, q) (map-turn (freeRowWord b s width block) a i l w h g)
 
-pub free-row-done : (b l₀ l : List ℕ) (c s width : ℕ) → c * 16 + 16 ≤ length l₀ → l ≡ mapRow (freeRowWord b s width) (c * 16) 16 0 l₀
-    → Changed l₀ l c (freeTo b s width)
+-- tick t of the block
+free-tick : (b : List ℕ) (s width block i w : ℕ) → i < blockTicks
+    → bit (freeRowWord b s width block (i / 64) w) (i % 64) ≡ freeTo b s width (blockTicks * block + i)
 unfolding freeRowWord
-free-row-done b l₀ l c s width room e =
-    row-changed (freeRowWord b s width) l₀ l c (freeTo b s width) room e
-    (λ t h.
-    decide (ltb t width)
+free-tick b s width block i w h =
+    decide (ltb (256 * block + i) width)
     (λ in-width.
-    let early : t < width = ltb-true t width in-width in
-    let lo : min (t / 64 * 64) width ≡ t / 64 * 64 = omega arith in
-    let p : s + t / 64 * 64 + t % 64 ≡ s + t = omega arith in
-    rw (lo, in-width) (free-bits b (min (t / 64 * 64 + 64) width - t / 64 * 64) (s + t / 64 * 64) (t % 64) (omega arith)
+    let early : 256 * block + i < width = ltb-true (256 * block + i) width in-width in
+    let lo : min (block * 256 + i / 64 * 64) width ≡ block * 256 + i / 64 * 64 = omega arith in
+    let p : s + (block * 256 + i / 64 * 64) + i % 64 ≡ s + (256 * block + i) = omega arith in
+    rw (lo, in-width)
+    (free-bits b (min (block * 256 + i / 64 * 64 + 64) width - (block * 256 + i / 64 * 64)) (s + (block * 256 + i / 64 * 64)) (i % 64) (omega arith)
     ∙ ap (λ (x : ℕ). eqb (getD b x 0) 0) p))
     (λ past.
-    let late : width ≤ t = ltb-false t width past in
-    let n : ℕ = min (t / 64 * 64 + 64) width - min (t / 64 * 64) width in
-    rw past (bit-past n (t % 64) _ (free-small b n (s + min (t / 64 * 64) width)) (omega arith))))
+    let late : width ≤ 256 * block + i = ltb-false (256 * block + i) width past in
+    let n : ℕ = min (block * 256 + i / 64 * 64 + 64) width - min (block * 256 + i / 64 * 64) width in
+    rw past (bit-past n (i % 64) _ (free-small b n (s + min (block * 256 + i / 64 * 64) width)) (omega arith)))
 
--- ---- all cells, from an area of zeros
+pub free-row-done : (b l₀ l : List ℕ) (c s width block : ℕ) → c * 8 + 8 ≤ length l₀ → l ≡ mapRow (freeRowWord b s width block) (c * 8 + 4) 4 0 l₀
+    → Put l₀ l (c * windowTicks + blockTicks) (λ i. freeTo b s width (blockTicks * block + i))
+free-row-done b l₀ l c s width block room e =
+    let place : (c * 8 + 4) * 64 ≡ c * windowTicks + blockTicks = omega arith in
+    subst (λ (p : ℕ). Put l₀ l p (λ i. freeTo b s width (blockTicks * block + i))) place
+    (put-done (freeRowWord b s width block) l₀ l (c * 8 + 4) (λ i. freeTo b s width (blockTicks * block + i)) (omega arith) e
+    (λ i h. free-tick b s width block i (getD l₀ (c * 8 + 4 + i / 64) 0) h))
 
--- the first n cells' rows are done, and the others are empty
-pub record FreeRows (b : List ℕ) (width : ℕ) (l : List ℕ) (n : ℕ) : Type 0 where
-  pub done : (c t : ℕ) → c < n → t < rowTicks → has l c t ≡ freeTo b (header + c * width) width t
-  pub left : (c t : ℕ) → n ≤ c → t < rowTicks → has l c t ≡ false
-  pub sized : length l ≡ freeWords
+-- ---- all cells
 
-pub rows-none : (b : List ℕ) (width : ℕ) → FreeRows b width (replicate freeWords 0) 0
-rows-none b width = record { done = λ c t h. absurd (omega arith); left = λ c t h e. empty-row freeWords c t; sized = length-replicate {A = ℕ} freeWords 0 }
+-- the second halves of the first n rows are done, and all else is as before
+pub record FreeRows (b : List ℕ) (width block : ℕ) (l₀ l : List ℕ) (n : ℕ) : Type 0 where
+  pub done : (c i : ℕ) → c < n → i < blockTicks → at l (c * windowTicks + blockTicks + i) ≡ freeTo b (header + c * width) width (blockTicks * block + i)
+  pub early : (c i : ℕ) → i < blockTicks → at l (c * windowTicks + i) ≡ at l₀ (c * windowTicks + i)
+  pub after : (j : ℕ) → n * windowTicks ≤ j → at l j ≡ at l₀ j
+  pub sized : length l ≡ length l₀
 
-pub rows-more : (b : List ℕ) (width : ℕ) (l l′ : List ℕ) (c : ℕ) → Changed l l′ c (freeTo b (header + c * width) width) → FreeRows b width l c → FreeRows b width l′ (c + 1)
-rows-more b width l l′ c step g =
+pub rows-none : (b : List ℕ) (width block : ℕ) (l : List ℕ) → FreeRows b width block l l 0
+rows-none b width block l = record { done = λ c i h e. absurd (omega arith); early = λ c i h. refl; after = λ j h. refl; sized = refl }
+
+pub rows-more : (b : List ℕ) (width block : ℕ) (l₀ l l′ : List ℕ) (c : ℕ)
+    → Put l l′ (c * windowTicks + blockTicks) (λ i. freeTo b (header + c * width) width (blockTicks * block + i))
+    → FreeRows b width block l₀ l c → FreeRows b width block l₀ l′ (c + 1)
+rows-more b width block l₀ l l′ c step g =
     record {
-      done = λ x t h e.
+      done = λ x i h e.
           decide (eqb x c)
-          (λ u. let same : x ≡ c = eqb-true x c u in rw same (step .here t e))
-          (λ u. let other : x ≡ c → ⊥ = eqb-false x c u in step .others x t other e ∙ g .done x t (omega arith) e);
-      left = λ x t h e. step .others x t (λ same. omega arith) e ∙ g .left x t (omega arith) e;
+          (λ u. let same : x ≡ c = eqb-true x c u in rw same (step .here i e))
+          (λ u. let other : x ≡ c → ⊥ = eqb-false x c u in
+          step .before (x * 512 + 256 + i) (omega arith) ∙ g .done x i (omega arith) e);
+      early = λ x i e.
+          decide (ltb c x)
+          (λ u. let above : c < x = ltb-true c x u in step .after (x * 512 + i) (omega arith) ∙ g .early x i e)
+          (λ u. let below : x ≤ c = ltb-false c x u in step .before (x * 512 + i) (omega arith) ∙ g .early x i e);
+      after = λ j h. step .after j (omega arith) ∙ g .after j (omega arith);
       sized = step .sized ∙ g .sized;
     }
 
 pub cell-run : (c cells w : ℕ) → c < cells → c * w + w ≤ cells * w
 cell-run c cells w h = omega (arith, mul-le-mul-right {m = suc c} {n = cells} w h, suc-mul c w)
 
-module _ (b l : List ℕ) (site : Site) (cells horizon n : ℕ) (few : horizon ≤ horizonLimit) (all : cells ≤ n) (only : n ≤ cells)
-    (same-cells : site .cells ≡ cells) (same-horizon : site .horizon ≡ horizon) (g : FreeRows b (horizon + 1) l n) where
-  held-past : (c t : ℕ) → (c < cells → t ≤ horizon → ⊥) → free site b c t ≡ false
-  unfolding free every
-  held-past c t h =
-      decide (ltb c (site .cells))
-      (λ e.
-      let inside : c < site .cells = ltb-true c (site .cells) e in
-      decide (leb t (site .horizon))
-      (λ f. absurd (h (omega arith) (omega (arith, borrow.Author.Tests.leb-true t (site .horizon) f))))
-      (λ f. simp (e, f)))
-      (λ e. simp e)
+-- a tick of a cell: one of the first horizon + 1 whose byte is 0
+free-is : (b : List ℕ) (site : Site) (horizon c t : ℕ) → c < site .cells → site .horizon ≡ horizon
+    → freeTo b (header + c * (horizon + 1)) (horizon + 1) t ≡ free site b c t
+unfolding free every
+free-is b site horizon c t inside same =
+    decide (ltb t (horizon + 1))
+    (λ f. simp (f, same, lt-ltb c (site .cells) inside, le-leb t horizon (omega (arith, ltb-true t (horizon + 1) f)), and-true))
+    (λ f. simp (f, same, lt-ltb c (site .cells) inside, lt-leb t horizon (omega (arith, ltb-false t (horizon + 1) f))))
 
-  pub rows-right : (c t : ℕ) → rowsFree l c t ≡ free site b c t
-  unfolding rowsFree free every
-  rows-right c t =
-      decide (ltb t rowTicks)
-      (λ early.
-      let lt : t < rowTicks = ltb-true t rowTicks early in
-      decide (ltb c cells)
-      (λ e.
-      let inside : c < cells = ltb-true c cells e in
-      decide (ltb t (horizon + 1))
-      (λ f.
-      let in-time : t < horizon + 1 = ltb-true t (horizon + 1) f in
-      simp (early, g .done c t (omega arith) lt, f, same-cells, same-horizon, e, le-leb t horizon (omega arith), and-true))
-      (λ f.
-      let late : horizon + 1 ≤ t = ltb-false t (horizon + 1) f in
-      simp early (g .done c t (omega arith) lt ∙ ap (λ (x : Bool). x && eqb (getD b (header + c * (horizon + 1) + t) 0) 0) f ∙ sym (held-past c t (λ i j. omega arith)))))
-      (λ e.
-      let outside : cells ≤ c = ltb-false c cells e in
-      simp early (g .left c t (omega arith) lt ∙ sym (held-past c t (λ i j. omega arith)))))
-      (λ late.
-      let past : rowTicks ≤ t = ltb-false t rowTicks late in
-      simp late (sym (held-past c t (λ i j. omega arith))))
+pub rows-done : (b : List ℕ) (cells horizon block : ℕ) (l₀ l : List ℕ) (n : ℕ) → cells ≤ n → n ≤ cells
+    → FreeRows b (horizon + 1) block l₀ l n → FreeBlock b cells horizon block l₀ l
+rows-done b cells horizon block l₀ l n all only g =
+    record {
+      late = λ site same-cells same-horizon c i h e. g .done c i (omega arith) e ∙ free-is b site horizon c (blockTicks * block + i) (omega arith) same-horizon;
+      early = λ c i h e. g .early c i e;
+      after = λ j h. g .after j (let same : n ≡ cells = omega arith in rw same h);
+      sized = g .sized;
+    }

@@ -1,1 +1,3 @@
+mod EightLaws
 pub mod FreeLaws
+mod TurnLaws

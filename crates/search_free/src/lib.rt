@@ -1,15 +1,14 @@
-// The free ticks of each cell as rows of bits, from the board's bytes.
-use search_sizes::FREE_WORDS;
-use search_sizes::ROW_WORDS;
+// The free ticks of each cell in a block as rows of bits, from the board's bytes.
+use search_sizes::BLOCK_TICKS;
+use search_sizes::BLOCK_WORDS;
+use search_sizes::WINDOW_WORDS;
 ghost use mathlib.Core.Path.{_≡_};
-ghost use Prim.Native.Nat.{ℕ, _+_, _*_, _≤_, min};
+ghost use Prim.Native.Nat.{_+_, _*_, _≤_, _<_, min};
 ghost use lib.ListN.{length};
 ghost use Rattle.meaning.specs.Limits.{horizonLimit, cellLimit, header};
-ghost use Rattle.meaning.specs.Site.{Site};
-ghost use Rattle.meaning.specs.Board.{free};
-ghost use Rattle.search_sizes.specs.Sizes.{rowWords, rowTicks};
-ghost use Rattle.search_ticks.specs.Rows.{ZeroFrom, Changed, rowsFree};
-ghost use Rattle.search_free.specs.Frees.{freeBit, freeWord, freeTo};
+ghost use Rattle.search_sizes.specs.Sizes.{blockTicks, blocks, windowWords, windowTicks};
+ghost use Rattle.search_ticks.specs.Rows.{ZeroFrom, Put};
+ghost use Rattle.search_free.specs.Frees.{freeBit, freeWord, freeTo, heldOf, exchanged, turnedOf, wordOfBytes, FreeBlock};
 
 fn least(a: usize, b: usize) -> usize
     ensures { λ r. ⌜ r ≡ min a b ⌝ }
@@ -52,6 +51,76 @@ fn bytes_union(board: &[u8], start: usize) -> u8
     all
 }
 
+// ---- 64 bytes at once, eight at a time
+
+fn wide(b: u8) -> u64
+    ensures { λ r. ⌜ (r ≡ b) × (r < 256) ⌝ }
+{
+    b as u64
+}
+
+// Two, four and eight bytes from `p` on as one number, the first one lowest.
+fn load_two(board: &[u8], p: usize) -> u64
+    requires { ⌜ p + 2 ≤ length (now board) ⌝ }
+    ensures { λ r. ⌜ r ≡ wordOfBytes (now (board .entry)) p 2 ⌝ }
+{
+    wide(board[p]) | (wide(board[p + 1]) << 8)
+}
+
+fn load_four(board: &[u8], p: usize) -> u64
+    requires { ⌜ p + 4 ≤ length (now board) ⌝ }
+    ensures { λ r. ⌜ r ≡ wordOfBytes (now (board .entry)) p 4 ⌝ }
+{
+    load_two(board, p) | (load_two(board, p + 2) << 16)
+}
+
+fn load_eight(board: &[u8], p: usize) -> u64
+    requires { ⌜ p + 8 ≤ length (now board) ⌝ }
+    ensures { λ r. ⌜ r ≡ wordOfBytes (now (board .entry)) p 8 ⌝ }
+{
+    load_four(board, p) | (load_four(board, p + 4) << 32)
+}
+
+// The highest bit of each byte of x that is not 0.
+fn held_eight(x: u64) -> u64
+    ensures { λ r. ⌜ r ≡ heldOf x ⌝ }
+{
+    let low: u64 = 9187201950435737471;
+    (((x & low) + low) | x) & 9259542123273814144
+}
+
+// Exchanges the bits of x that the mask has with those that stand k higher.
+fn exchange(x: u64, k: u64, mask: u64) -> u64
+    requires { ⌜ k < 64 ⌝ }
+    ensures { λ r. ⌜ r ≡ exchanged k mask x ⌝ }
+{
+    let t = (x ^ (x >> k)) & mask;
+    (x ^ t) ^ (t << k)
+}
+
+// Bit i of byte j becomes bit j of byte i.
+fn turn(x: u64) -> u64
+    ensures { λ r. ⌜ r ≡ turnedOf x ⌝ }
+{
+    let y = exchange(x, 7, 47851476196393130);
+    let z = exchange(y, 14, 225176545447116);
+    exchange(z, 28, 4042322160)
+}
+
+// The 64 bytes of the board from `start` on as bits: set where the byte is 0.
+fn free_all(board: &[u8], start: usize) -> u64
+    requires { ⌜ start + 64 ≤ length (now board) ⌝ }
+    ensures { λ r. ⌜ r ≡ freeWord (now (board .entry)) start 64 ⌝ }
+{
+    let mut x: u64 = 0;
+    let mut j = 0;
+    while j < 8 {
+        x = (x >> 1) | held_eight(load_eight(board, start + 8 * j));
+        j += 1;
+    }
+    turn(x) ^ 18446744073709551615
+}
+
 // The same bits as `free_bits`: most boards have many words of free ticks alone.
 fn free_word(board: &[u8], start: usize, n: usize) -> u64
     requires { ⌜ (n ≤ 64) × (start + n ≤ length (now board)) ⌝ }
@@ -63,36 +132,36 @@ fn free_word(board: &[u8], start: usize, n: usize) -> u64
     if bytes_union(board, start) == 0 {
         return 18446744073709551615;
     }
-    free_bits(board, start, n)
+    free_all(board, start)
 }
 
-// Row c: the free ticks of the cell whose `width` bytes begin at `start`.
-fn free_row(l: &mut [u64], board: &[u8], c: usize, start: usize, width: usize)
-    requires { ⌜ (c * rowWords + rowWords ≤ length (now l)) × ((start + width ≤ length (now board)) × (width ≤ rowTicks)) ⌝ }
-    ensures { λ _. ⌜ Changed (now (l .entry)) (now (l .exit)) c (freeTo (now (board .entry)) start width) ⌝ }
+// ---- rows
+
+// The second half of row c: the free ticks in the block of the cell whose `width` bytes begin at `start`.
+fn free_row(tab: &mut [u64], board: &[u8], c: usize, start: usize, width: usize, block: usize)
+    requires { ⌜ (c * windowWords + windowWords ≤ length (now tab)) × ((start + width ≤ length (now board)) × (block < blocks)) ⌝ }
+    ensures { λ _. ⌜ Put (now (tab .entry)) (now (tab .exit)) (c * windowTicks + blockTicks) (λ i. freeTo (now (board .entry)) start width (blockTicks * block + i)) ⌝ }
 {
-    let a = c * ROW_WORDS;
+    let a = c * WINDOW_WORDS + BLOCK_WORDS;
     let mut i = 0;
-    while i < ROW_WORDS {
-        let low = least(i * 64, width);
-        let high = least(i * 64 + 64, width);
-        l[a + i] = free_word(board, start + low, high - low);
+    while i < BLOCK_WORDS {
+        let low = least(block * BLOCK_TICKS + i * 64, width);
+        let high = least(block * BLOCK_TICKS + i * 64 + 64, width);
+        tab[a + i] = free_word(board, start + low, high - low);
         i += 1;
     }
 }
 
-// The free ticks of every cell, a row each, which stand behind the board's header.
-pub fn free_rows(board: &[u8], cells: usize, horizon: usize) -> [u64; FREE_WORDS]
+// The free ticks of every cell in the block, as the second halves of the first rows; the cells' bytes stand behind the board's header.
+pub fn free_block(tab: &mut [u64], board: &[u8], cells: usize, horizon: usize, block: usize)
     requires { ⌜ (cells ≤ cellLimit) × ((horizon ≤ horizonLimit) × (header + cells * (horizon + 1) ≤ length (now board))) ⌝ }
-    ensures { λ r. ⌜ ((site : Site) → site .cells ≡ cells → site .horizon ≡ horizon
-        → (c t : ℕ) → rowsFree r c t ≡ free site (now (board .entry)) c t) ⌝ }
+    requires { ⌜ (cells * windowWords ≤ length (now tab)) × (block < blocks) ⌝ }
+    ensures { λ _. ⌜ FreeBlock (now (board .entry)) cells horizon block (now (tab .entry)) (now (tab .exit)) ⌝ }
 {
     let width = horizon + 1;
-    let mut l = [0u64; FREE_WORDS];
     let mut c = 0;
     while c < cells {
-        free_row(&mut l, board, c, board::HEADER + c * width, width);
+        free_row(tab, board, c, board::HEADER + c * width, width, block);
         c += 1;
     }
-    l
 }

@@ -7,20 +7,20 @@ use mathlib.Core.List.{List}
 use lib.Dec.{eqb}
 use lib.ListN.{length, getD, set, replicate, length-set, length-replicate, getD-replicate}
 use lib.Seq.{getD-set-same, getD-set-other}
-use borrow.Author.Tests.{eqb-true, eqb-false}
+use borrow.Author.Tests.{eqb-true, eqb-false, eq-eqb, ne-eqb}
 use Rattle.meaning.proofs.BasicsLaws.{decide}
 use Rattle.search_sizes.specs.Sizes.{listed, motionRows, stateRows}
-use Rattle.search_site.specs.Arrays.{fromAt}
-use Rattle.search_lists.specs.Lists.{Chain, here, next, Listed}
+use Rattle.search_site.specs.Arrays.{fromAt, toAt}
+use Rattle.search_lists.specs.Lists.{endAt, Chain, here, next, Listed}
 
 -- the motions from m on are on their lists, and no list starts below m
-pub record Listing (k : ℕ) (mv ls : List ℕ) (m : ℕ) : Type 0 where
+pub record Listing (which k : ℕ) (mv ls : List ℕ) (m : ℕ) : Type 0 where
   pub sized : length ls ≡ listed
   pub starts : (s : ℕ) → s < stateRows → m ≤ getD ls (motionRows + s) 0
-  pub on : (j : ℕ) → m ≤ j → j < k → Chain ls k (getD ls (motionRows + fromAt mv j) 0) j
+  pub on : (j : ℕ) → m ≤ j → j < k → Chain ls k (getD ls (motionRows + endAt mv which j) 0) j
 
-pub listing-none : (k : ℕ) (mv : List ℕ) → k ≤ motionRows → Listing k mv (replicate listed motionRows) k
-listing-none k mv few =
+pub listing-none : (which k : ℕ) (mv : List ℕ) → k ≤ motionRows → Listing which k mv (replicate listed motionRows) k
+listing-none which k mv few =
     record {
       sized = length-replicate {A = ℕ} listed motionRows;
       starts = λ s h. omega (arith, getD-replicate {A = ℕ} listed (motionRows + s) motionRows 0 (omega arith));
@@ -38,9 +38,9 @@ chain-kept ls ls′ k i few same {a = a} {m = m} above (next lt up c) =
     let e : getD ls′ a 0 ≡ getD ls a 0 = same a above (omega arith) in
     next {ls = ls′} {k = k} {a = a} {m = m} lt (omega arith) (subst (λ (x : ℕ). Chain ls′ k x m) (sym e) (chain-kept ls ls′ k i few same (omega arith) c))
 
-pub listing-more : (k : ℕ) (mv ls : List ℕ) (m from : ℕ) → k ≤ motionRows → 0 < m → m ≤ k → from ≡ fromAt mv (m - 1) → from < stateRows → ((j : ℕ) → j < k → fromAt mv j < stateRows) → Listing k mv ls m
-    → Listing k mv (set (set ls (m - 1) (getD ls (motionRows + from) 0)) (motionRows + from) (m - 1)) (m - 1)
-listing-more k mv ls m from few pos most is-from small froms g =
+pub listing-more : (which k : ℕ) (mv ls : List ℕ) (m from : ℕ) → k ≤ motionRows → 0 < m → m ≤ k → from ≡ endAt mv which (m - 1) → from < stateRows → ((j : ℕ) → j < k → endAt mv which j < stateRows) → Listing which k mv ls m
+    → Listing which k mv (set (set ls (m - 1) (getD ls (motionRows + from) 0)) (motionRows + from) (m - 1)) (m - 1)
+listing-more which k mv ls m from few pos most is-from small froms g =
     let i : ℕ = m - 1 in
     let old : ℕ = getD ls (motionRows + from) 0 in
     let ls₁ : List ℕ = set ls i old in
@@ -62,25 +62,47 @@ listing-more k mv ls m from few pos most is-from small froms g =
       on = λ j lo hi. decide (eqb j i)
           (λ u.
           let e : j ≡ i = eqb-true j i u in
-          let start : getD ls₂ (motionRows + fromAt mv j) 0 ≡ j = ap (λ (x : ℕ). getD ls₂ (motionRows + fromAt mv x) 0) e ∙ ap (λ (x : ℕ). getD ls₂ (motionRows + x) 0) (sym is-from) ∙ first ∙ sym e in
+          let start : getD ls₂ (motionRows + endAt mv which j) 0 ≡ j = ap (λ (x : ℕ). getD ls₂ (motionRows + endAt mv which x) 0) e ∙ ap (λ (x : ℕ). getD ls₂ (motionRows + x) 0) (sym is-from) ∙ first ∙ sym e in
           subst (λ (x : ℕ). Chain ls₂ k x j) (sym start) (here hi))
           (λ u.
           let other : j ≡ i → ⊥ = eqb-false j i u in
-          let was : Chain ls k (getD ls (motionRows + fromAt mv j) 0) j = g .on j (omega arith) hi in
-          decide (eqb (fromAt mv j) from)
+          let was : Chain ls k (getD ls (motionRows + endAt mv which j) 0) j = g .on j (omega arith) hi in
+          decide (eqb (endAt mv which j) from)
           (λ v.
-          let e : fromAt mv j ≡ from = eqb-true (fromAt mv j) from v in
-          let start : getD ls₂ (motionRows + fromAt mv j) 0 ≡ i = ap (λ (x : ℕ). getD ls₂ (motionRows + x) 0) e ∙ first in
+          let e : endAt mv which j ≡ from = eqb-true (endAt mv which j) from v in
+          let start : getD ls₂ (motionRows + endAt mv which j) 0 ≡ i = ap (λ (x : ℕ). getD ls₂ (motionRows + x) 0) e ∙ first in
           let rest : Chain ls₂ k old j = chain-kept ls ls₂ k i few same (omega arith) (subst (λ (x : ℕ). Chain ls k x j) (ap (λ (x : ℕ). getD ls (motionRows + x) 0) e) was) in
           subst (λ (x : ℕ). Chain ls₂ k x j) (sym start) (next (omega arith) (omega arith) (subst (λ (x : ℕ). Chain ls₂ k x j) (sym after) rest)))
           (λ v.
-          let start : getD ls₂ (motionRows + fromAt mv j) 0 ≡ getD ls (motionRows + fromAt mv j) 0 = elsewhere (fromAt mv j) (eqb-false (fromAt mv j) from v) in
-          let high : m ≤ getD ls (motionRows + fromAt mv j) 0 = g .starts (fromAt mv j) (froms j hi) in
+          let start : getD ls₂ (motionRows + endAt mv which j) 0 ≡ getD ls (motionRows + endAt mv which j) 0 = elsewhere (endAt mv which j) (eqb-false (endAt mv which j) from v) in
+          let high : m ≤ getD ls (motionRows + endAt mv which j) 0 = g .starts (endAt mv which j) (froms j hi) in
           subst (λ (x : ℕ). Chain ls₂ k x j) (sym start) (chain-kept ls ls₂ k i few same (omega arith) was)));
     }
 
-pub listing-all : (k : ℕ) (mv ls : List ℕ) (m : ℕ) → m ≤ 0 → Listing k mv ls m → Listed k mv ls
-listing-all k mv ls m none g j h = g .on j (omega arith) h
+pub listing-all : (which k : ℕ) (mv ls : List ℕ) (m : ℕ) → m ≤ 0 → Listing which k mv ls m → Listed which k mv ls
+listing-all which k mv ls m none g j h = g .on j (omega arith) h
 
-pub listed-from : (k : ℕ) (mv ls : List ℕ) (s : ℕ) → Listed k mv ls → (m : ℕ) → m < k → fromAt mv m ≡ s → Chain ls k (getD ls (motionRows + s) 0) m
-listed-from k mv ls s all m h e = subst (λ (x : ℕ). Chain ls k (getD ls (motionRows + x) 0) m) e (all m h)
+-- the list of state s, where that is the end of motion m
+pub listed-on : (which k : ℕ) (mv ls : List ℕ) (s : ℕ) → Listed which k mv ls → (m : ℕ) → m < k → endAt mv which m ≡ s → Chain ls k (getD ls (motionRows + s) 0) m
+listed-on which k mv ls s all m h e = subst (λ (x : ℕ). Chain ls k (getD ls (motionRows + x) 0) m) e (all m h)
+
+pub end-from : (mv : List ℕ) (m : ℕ) → endAt mv 0 m ≡ fromAt mv m
+unfolding endAt
+end-from mv m = refl
+
+pub end-to : (mv : List ℕ) (m : ℕ) → endAt mv 1 m ≡ toAt mv m
+unfolding endAt
+end-to mv m = refl
+
+-- as the code finds it
+pub end-first : (mv : List ℕ) (which m r : ℕ) → which ≡ 0 → r ≡ fromAt mv m → r ≡ endAt mv which m
+unfolding endAt
+end-first mv which m r e is = rw (eq-eqb which 0 e) is
+
+pub end-second : (mv : List ℕ) (which m r : ℕ) → (which ≡ 0 → ⊥) → r ≡ toAt mv m → r ≡ endAt mv which m
+unfolding endAt
+end-second mv which m r ne is = rw (ne-eqb which 0 ne) is
+
+pub end-below : (mv : List ℕ) (which m n : ℕ) → fromAt mv m < n → toAt mv m < n → endAt mv which m < n
+unfolding endAt
+end-below mv which m n a b = decide (eqb which 0) (λ e. rw e a) (λ e. rw e b)

@@ -1,50 +1,51 @@
--- What the parts of the search give together: the sets and the plan.
+-- What the parts of the search are handed, and what they give together: the plan.
 -- Assumes nothing.
-use Prim.Native.Nat.{ℕ, _+_, _*_, _-_, _≤_, _<_}
+use Prim.Native.Nat.{ℕ, suc, _+_, _*_, _-_, _/_, _%_, _≤_, _<_}
+use native.Mathlib.Nat.{mul-le-mul, mul-le-mul-right, suc-mul}
 use native.Mathlib.Omega.{arith}
-use mathlib.Core.Path.{_≡_, sym, ap, _∙_}
-use mathlib.Core.Bool.{cond}
+use mathlib.Core.Path.{_≡_, refl, sym, ap, _∙_, subst}
+use mathlib.Core.Bool.{Bool, true, false, cond, _&&_, false≢true}
 use mathlib.Core.Option.{none, some}
 use mathlib.Core.List.{List}
 use lib.Dec.{leb}
-use lib.ListN.{length}
-use Rattle.meaning.specs.Limits.{horizonLimit, cellLimit, stateLimit, header, motionLimit}
+use lib.ListN.{length, getD, replicate, length-replicate}
+use borrow.Author.Tests.{leb-true}
 use Rattle.meaning.specs.Site.{Site, siteOf, cellOf}
 use Rattle.meaning.specs.WellFormed.{WellFormed}
 use Rattle.meaning.specs.Board.{Free, free}
+use Rattle.meaning.specs.Plan.{node, canUnload}
+use Rattle.meaning.specs.Reach.{Route, reached}
+use Rattle.meaning.proofs.BasicsLaws.{and-left, and-right}
 use Rattle.meaning.proofs.CallLaws.{named-start, named-tick, named-goal}
-use Rattle.meaning.specs.Plan.{node}
+use Rattle.meaning.proofs.MotionLaws.{cell-known}
+use Rattle.meaning.proofs.TraceLaws.{reached-pair}
 use Rattle.site.specs.declared.Sizes.{Sizes}
 use Rattle.site.specs.declared.Trip.{Trip}
-use Rattle.search_sizes.specs.Sizes.{rowTicks, motionNumbers, stateNumbers}
-use Rattle.search_ticks.specs.Rows.{has, rowsFree}
-use Rattle.search_site.specs.Arrays.{cellAt, States, Motions}
-use Rattle.search_step.specs.Sets.{Closed, Explored}
-use Rattle.search_reach.specs.Reached.{Starts, ReachedRows}
-use Rattle.search_back.specs.Arrivals.{arrivalIn}
-use Rattle.search_back.specs.Words.{Sets}
-use Rattle.search_back.proofs.SetsLaws.{sets-right}
+use Rattle.board_ticks.specs.Runs.{Row}
 use Rattle.light_write.specs.Codes.{stepsIn}
+use Rattle.search_sizes.specs.Sizes.{blockTicks, rowWords, blockWords, windowWords, stateNumbers, motionNumbers}
+use Rattle.search_ticks.specs.Bits.{bit}
+use Rattle.search_ticks.specs.Rows.{at, has}
+use Rattle.search_ticks.proofs.RowLaws.{zeros-at, zero-bit}
+use Rattle.search_runs.specs.Runs.{runTables, tableOf}
+use Rattle.search_runs.proofs.LengthLaws.{table-mono}
+use Rattle.search_site.specs.Arrays.{cellAt, spanAt, placeAt, countAt, States, Motions}
+use Rattle.search_site.specs.Decoded.{SweepsIn, StatesDecoded, MotionsDecoded}
+use Rattle.search_site.proofs.DecodedLaws.{well, states-fit, cells-below, motions-fit, motions-lead, sweeps-fit, decoded}
+use Rattle.search_ends.specs.Ends.{reachedAt, endsOn, First}
+use Rattle.search_reach.specs.Explored.{InArrays, Space, EndsRight}
 use Rattle.search_trace.specs.Turns.{Search, Found}
 use Rattle.search_trace.proofs.FoundLaws.{routeAfter, route-there, route-nowhere, arrival-found}
-use Rattle.search_site.specs.Decoded.{Sweeps, StatesDecoded, MotionsDecoded}
-use Rattle.search_site.proofs.DecodedLaws.{well, states-fit, motions-fit, sweeps-fit, decoded}
 use Rattle.search_plan.specs.declared.Traced.the-variants.{Steps, Missing}
-use Rattle.search_plan.specs.Planned.{Asked, routeOn, Planned}
+use Rattle.search_plan.specs.Planned.{Asked, routeOn, Planned, Prepared}
 
--- the numbers that keep each index of the search in range
-pub record Ranges (l : Sizes) (trip : Trip) : Type 0 where
-  pub short : l .horizon ≤ horizonLimit
-  pub in-time : trip .tick ≤ l .horizon
-  pub start-below : trip .start < l .states
-  pub goal-below : trip .goal < l .states
-  pub states-few : l .states ≤ stateLimit
-  pub motions-few : l .motions ≤ motionLimit
+-- ---- empty tables
 
--- the arrays and rows are the sets of the search on the board
-abbrev pub SetsOn : List ℕ → List ℕ → Sizes → Trip → List ℕ → List ℕ → List ℕ → List ℕ → List ℕ → Type 0
-SetsOn file board l trip st mv fr al re =
-    Sets (siteOf file) (free (siteOf file) board) (node (trip .start) (trip .tick)) (l .states) (l .motions) st mv file fr al re
+pub blank : (n j : ℕ) → at (replicate {A = ℕ} n 0) j ≡ false
+unfolding at
+blank n j = ap (λ (w : ℕ). bit w (j % 64)) (zeros-at n (j / 64)) ∙ zero-bit (j % 64)
+
+-- ---- an asked trip
 
 module _ (file board : List ℕ) (l : Sizes) (trip : Trip) (q : Asked file l (length board) trip) where
   abbrev start : ℕ
@@ -68,87 +69,186 @@ module _ (file board : List ℕ) (l : Sizes) (trip : Trip) (q : Asked file l (le
   site-well : WellFormed site
   site-well = well file (q .ready .read)
 
-  -- ---- what the layout says
-
   pub same-states : l .states ≡ length (site .states)
   same-states = ap (λ (k : Sizes). k .states) (q .ready .sizes)
 
-  same-motions : l .motions ≡ length (site .motions)
+  pub same-motions : l .motions ≡ length (site .motions)
   same-motions = ap (λ (k : Sizes). k .motions) (q .ready .sizes)
 
-  same-horizon : site .horizon ≡ l .horizon
+  pub same-horizon : site .horizon ≡ l .horizon
   same-horizon = sym (ap (λ (k : Sizes). k .horizon) (q .ready .sizes))
 
-  same-cells : site .cells ≡ l .cells
+  pub same-cells : site .cells ≡ l .cells
   same-cells = sym (ap (λ (k : Sizes). k .cells) (q .ready .sizes))
 
-  pub ranges : Ranges l trip
+  -- the numbers that keep each index of the search in range
+  pub record Ranges : Type 0 where
+    pub short : l .horizon ≤ 1000
+    pub in-time : tick ≤ l .horizon
+    pub start-below : start < l .states
+    pub goal-below : goal < l .states
+    pub cells-few : l .cells ≤ 255
+    pub states-few : l .states ≤ 256
+    pub motions-few : l .motions ≤ 2000
+
+  pub ranges : Ranges
   ranges =
       let w = site-well in
       let h = same-horizon in
       let n = same-states in
       let k = same-motions in
+      let c = same-cells in
       record {
         short = omega (arith, w .horizon-range);
         in-time = omega (arith, named-tick site (node start tick) goal dwell (q .named));
         start-below = omega (arith, named-start site (node start tick) goal dwell (q .named));
         goal-below = omega (arith, named-goal site (node start tick) goal dwell (q .named));
+        cells-few = omega (arith, w .cells-range);
         states-few = omega (arith, w .states-range);
         motions-few = omega (arith, w .motions-range);
       }
 
-  pub board-fits : (l .cells ≤ cellLimit) × ((l .horizon ≤ horizonLimit) × (header + l .cells * (l .horizon + 1) ≤ length board))
-  board-fits =
-      let size : length board ≡ 4 + l .cells * (l .horizon + 1) =
-      q .ready .board ∙ ap (λ (c : ℕ). 4 + c * (site .horizon + 1)) same-cells ∙ ap (λ (h : ℕ). 4 + l .cells * (h + 1)) same-horizon in
-      (omega (arith, same-cells, site-well .cells-range), (ranges .short, omega arith))
+  -- ---- the site in arrays
 
-  -- ---- what the parts leave
+  module _ (st : List ℕ) (held : StatesDecoded file st) where
+    pub states-in : stateNumbers ≤ length st → States (l .states) st
+    states-in = states-fit file (q .ready .read) st held (l .states) same-states
 
-  pub states-in : (st : List ℕ) → StatesDecoded file st → stateNumbers ≤ length st → States (l .states) st
-  states-in st held = states-fit file (q .ready .read) st held (l .states) same-states
+    -- the cell of a state, and that it is on the board
+    pub cell-is : (s c : ℕ) → s < l .states → c ≡ cellAt st s → c ≡ cellOf site s
+    cell-is s c below e = e ∙ held s (omega (arith, same-states)) .0
 
-  pub motions-in : (mv : List ℕ) → MotionsDecoded file mv → motionNumbers ≤ length mv → Motions (l .motions) mv
-  motions-in mv held = motions-fit file (q .ready .read) mv held (l .motions) same-motions
+    pub cell-below : (s c : ℕ) → s < l .states → c ≡ cellAt st s → c < site .cells
+    cell-below s c below e = omega (arith, cell-is s c below e, cell-known site site-well s (omega (arith, same-states)))
 
-  pub sweeps-in : (mv : List ℕ) → MotionsDecoded file mv → Sweeps (l .motions) mv file
-  sweeps-in mv held = sweeps-fit file (q .ready .read) mv held (l .motions) same-motions
+    pub row : (s c : ℕ) → s < l .states → c ≡ cellAt st s → Row (length board) (l .horizon) c tick
+    row s c below e =
+        let r = ranges in
+        let size = q .ready .board ∙ ap (λ (n : ℕ). 4 + n * (site .horizon + 1)) same-cells ∙ ap (λ (h : ℕ). 4 + l .cells * (h + 1)) same-horizon in
+        let known : c < l .cells = omega (arith, cell-below s c below e, same-cells) in
+        record {
+          short = r .short;
+          in-time = r .in-time;
+          on-board = omega (arith, mul-le-mul-right (l .horizon + 1) known, suc-mul c (l .horizon + 1));
+        }
 
-  pub sets-in : (st mv fr al re : List ℕ) → StatesDecoded file st → MotionsDecoded file mv
-      → ((s : Site) → s .cells ≡ l .cells → s .horizon ≡ l .horizon → (c t : ℕ) → rowsFree fr c t ≡ free s board c t) → Starts (l .motions) mv file fr al
-      → Explored (Closed (l .states) (l .motions) st mv fr al) fr (cellAt st start) start tick re → SetsOn file board l trip st mv fr al re
-  sets-in st mv fr al re states motions frees starts explored =
-      sets-right site site-well board (l .states) (l .motions) st mv file fr al re start tick
-      (decoded file (q .ready .read) st mv states motions (l .states) (l .motions) same-states same-motions) (frees site same-cells same-horizon) starts (ranges .start-below) (named-tick site (node start tick) goal dwell (q .named)) explored
+    -- whether the start is free, and where the tug can unload, as they are found on the board
+    pub start-is : (c : ℕ) (b : Bool) → c ≡ cellAt st start → ((s : Site) → s .horizon ≡ l .horizon → c < s .cells → b ≡ free s board c tick) → b ≡ f (cellOf site start) tick
+    start-is c b e says =
+        let below = ranges .start-below in
+        says site same-horizon (cell-below start c below e) ∙ ap (λ (x : ℕ). f x tick) (cell-is start c below e)
+
+    pub ends-in : (c : ℕ) (ends : List ℕ) → c ≡ cellAt st goal
+        → ((s : Site) (g : ℕ) → s .horizon ≡ l .horizon → cellOf s g ≡ c → c < s .cells
+        → (t : ℕ) → tick ≤ t → t ≤ l .horizon → getD ends t 0 ≡ cond (canUnload s (free s board) (node g t) dwell) 1 0)
+        → EndsRight site f goal dwell tick ends
+    ends-in c ends e says t lo hi =
+        let below = ranges .goal-below in
+        says site goal same-horizon (sym (cell-is goal c below e)) (cell-below goal c below e) t lo (omega (arith, same-horizon))
+
+    module _ (mv : List ℕ) (moves : MotionsDecoded file mv) where
+      pub motions-in : motionNumbers ≤ length mv → Motions (l .motions) mv
+      motions-in = motions-fit file (q .ready .read) mv moves (l .motions) same-motions
+
+      pub arrays-in : stateNumbers ≤ length st → motionNumbers ≤ length mv → InArrays file l st mv
+      arrays-in states motions =
+          record {
+            states = states-in states;
+            motions = motions-in motions;
+            cells = subst (λ (c : ℕ). (s : ℕ) → s < l .states → cellAt st s < c) same-cells (cells-below file (q .ready .read) st held (l .states) same-states);
+            leads = motions-lead file (q .ready .read) mv moves (l .states) (l .motions) same-states same-motions;
+            sweeps = λ m h. subst (λ (c : ℕ). SweepsIn c (spanAt mv m) file (placeAt mv m) (countAt mv m)) same-cells (sweeps-fit file (q .ready .read) mv moves (l .motions) same-motions m h);
+            decoded = decoded file (q .ready .read) st mv held moves (l .states) (l .motions) same-states same-motions;
+          }
+
+  -- ---- no plan at once
+
+  no-plan : ((t : ℕ) → endsOn site f (node start tick) goal dwell t ≡ true → t ≤ l .horizon → ⊥) → (path : List ℕ) → Planned (routeOn file board trip) path Missing
+  unfolding Planned
+  no-plan never path =
+      let r = ranges in
+      route-nowhere site f start tick goal dwell (l .horizon) (l .horizon + 1) site-well same-horizon (r .in-time)
+      (record {
+        above = omega (arith, r .in-time);
+        within = omega arith;
+        none = λ t lo hi. not-true _ (λ e. never t e (omega arith));
+        hit = λ h. absurd (omega arith);
+      })
+      (omega arith)
+    where
+      not-true : (b : Bool) → (b ≡ true → ⊥) → b ≡ false
+      not-true true h = absurd (h refl)
+      not-true false h = refl
+
+  -- the start's cell is held
+  pub start-held : (b : Bool) → b ≡ f (cellOf site start) tick → b ≡ false → (path : List ℕ) → Planned (routeOn file board trip) path Missing
+  start-held b is held =
+      no-plan (λ t e in-time.
+      let r = and-left (reachedAt site f (node start tick) goal t) _ e in
+      let v = reached-pair site site-well f (node start tick) (t - tick) goal (and-right (leb tick t) _ r) .valid .start-free in
+      false≢true (sym held ∙ is ∙ v))
+
+  -- the tug can unload at no tick
+  pub never-unloads : (ends : List ℕ) → EndsRight site f goal dwell tick ends → ((t : ℕ) → tick ≤ t → t ≤ l .horizon → getD ends t 0 ≡ 0)
+      → (path : List ℕ) → Planned (routeOn file board trip) path Missing
+  never-unloads ends right zeros =
+      no-plan (λ t e in-time.
+      let r = and-left (reachedAt site f (node start tick) goal t) _ e in
+      let late : tick ≤ t = leb-true _ _ (and-left (leb tick t) _ r) in
+      let can = and-right (reachedAt site f (node start tick) goal t) _ e in
+      let one : getD ends t 0 ≡ 1 = right t late (omega (arith, same-horizon)) ∙ ap (λ (b : Bool). cond b 1 0) can in
+      let zero-there = zeros t late in-time in
+      omega arith)
 
   -- ---- the plan
 
-  module _ (st mv fr al re : List ℕ) (sets : SetsOn file board l trip st mv fr al re) (cell arrival : ℕ)
-      (same-cell : cell ≡ cellAt st goal)
-      (first : (s : Site) (g : Free) (b : ℕ) → WellFormed s → s .horizon ≡ l .horizon → cellOf s goal ≡ cell
-      → ((c t : ℕ) → t < rowTicks → has fr c t ≡ g c t) → ReachedRows s g (node b tick) re
-      → arrivalIn s g (node b tick) (l .horizon - tick) goal dwell ≡ cond (leb arrival (l .horizon)) (some (arrival - tick)) none) where
-    arrives : arrivalIn site f (node start tick) (l .horizon - tick) goal dwell ≡ cond (leb arrival (l .horizon)) (some (arrival - tick)) none
-    arrives =
-        first site f start site-well same-horizon (sym (same-cell ∙ sets .decoded .cell goal (ranges .goal-below))) (sets .frees) (sets .reached)
-
+  module _ (re : List ℕ) (arrival : ℕ) (first : First (endsOn site f (node start tick) goal dwell) tick (l .horizon + 1) arrival) where
     pub missing : (path : List ℕ) → l .horizon < arrival → Planned (routeOn file board trip) path Missing
     unfolding Planned
-    missing path late = route-nowhere site f start tick goal dwell arrival (l .horizon) same-horizon arrives late
+    missing path late = route-nowhere site f start tick goal dwell (l .horizon) arrival site-well same-horizon (ranges .in-time) first late
 
     abbrev answered : Search
-    answered = record { site = site; free = f; start = start; dwell = dwell; sweeps = file; route = routeAfter site f (node start tick) goal (arrival - tick) }
+    answered = record { start = start; dwell = dwell; route = routeAfter site f (node start tick) goal (arrival - tick) }
 
-    module _ (later : tick ≤ arrival) (there : arrival ≤ l .horizon) where
-      pub found : Found answered (l .states) (l .motions) st mv fr al re tick goal arrival
-      found = arrival-found site f start tick goal dwell arrival (l .horizon) same-horizon arrives (l .states) (l .motions) st mv file fr al re site-well sets later there
+    module _ (there : arrival ≤ l .horizon)
+        (rows : arrival ≤ l .horizon → (s t : ℕ) → t ≤ arrival → has re s (blockTicks + t) ≡ reachedAt site f (node start tick) s t) where
+      pub found : Found answered file board re tick goal arrival
+      found = arrival-found file board re start tick goal dwell (l .horizon) arrival site-well same-horizon (ranges .in-time) first there (rows there)
 
-      pub planned : (path : List ℕ) (count : ℕ)
-          → ((x : Search) → Found x (l .states) (l .motions) st mv fr al re tick goal arrival → stepsIn path count ≡ x .route .steps)
+      pub planned : (path : List ℕ) (count : ℕ) → ((x : Search) → Found x file board re tick goal arrival → stepsIn path count ≡ x .route .steps)
           → Planned (routeOn file board trip) path (Steps count arrival)
       unfolding Planned
       planned path count traced =
+          let late = first .above in
           let there-on : tick + (arrival - tick) ≡ arrival = omega arith in
           let same : stepsIn path count ≡ answered .route .steps = traced answered found in
-          route-there site f start tick goal dwell arrival (l .horizon) same-horizon arrives there
+          route-there site f start tick goal dwell (l .horizon) arrival site-well same-horizon (ranges .in-time) first there
           ∙ ap some (λ i. record { steps = sym same i; arrival = there-on i })
+
+-- ---- the tables
+
+-- the tables that motions of at most this span need
+pub enough : (k longest : ℕ) (mv : List ℕ) → longest ≤ 255 → ((m : ℕ) → m < k → spanAt mv m ≤ longest) → (tables : ℕ) → tables ≡ tableOf (longest + 1) + 1
+    → (m : ℕ) → m < k → tableOf (suc (spanAt mv m)) < tables
+enough k longest mv small longer tables is m h =
+    let more : longest + 1 ≡ suc longest = omega arith in
+    let mono = table-mono (suc (spanAt mv m)) (suc longest) (omega arith) (omega (arith, longer m h)) (omega arith) in
+    omega (arith, ap tableOf more)
+
+module _ (file board : List ℕ) (l : Sizes) (trip : Trip) (st mv ends : List ℕ) (tables : ℕ) (p : Prepared file board l trip st mv ends tables) where
+  -- room for so many rows, motions and states
+  pub space-of : (rows motions states tab al re : ℕ) → tables * l .cells ≤ rows → l .motions ≤ motions → l .states ≤ states → rows ≤ 3060
+      → tab ≡ rows * windowWords + 1 → al ≡ motions * blockWords → re ≡ states * rowWords → Space l mv tables tab al re
+  space-of rows motions states tab al re few-rows few-motions few-states most is-tab is-al is-re =
+      record {
+        some = p .some;
+        few = p .few;
+        enough = p .enough;
+        tab = omega arith;
+        small = omega arith;
+        allowed = omega arith;
+        reached = omega arith;
+      }
+
+  pub all-rows : tables * l .cells ≤ 3060
+  all-rows = mul-le-mul (p .few) (ranges file board l trip (p .asked) .cells-few)

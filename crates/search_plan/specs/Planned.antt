@@ -1,11 +1,12 @@
 -- What the search for a plan needs, and what it answers.
 -- Assumes nothing.
-use Prim.Native.Nat.{ℕ}
+use Prim.Native.Nat.{ℕ, suc, _≤_, _<_}
 use mathlib.Core.Path.{_≡_}
 use mathlib.Core.Bool.{true}
 use mathlib.Core.Option.{Option, none, some}
 use mathlib.Core.List.{List}
-use Rattle.meaning.specs.Site.{siteOf}
+use lib.ListN.{length}
+use Rattle.meaning.specs.Site.{siteOf, cellOf}
 use Rattle.meaning.specs.Board.{free}
 use Rattle.meaning.specs.Reach.{Route, findRoute}
 use Rattle.meaning.specs.Calls.{tripNamed}
@@ -14,6 +15,10 @@ use Rattle.site.specs.Ready.{Ready}
 use Rattle.site.specs.declared.Sizes.{Sizes}
 use Rattle.site.specs.declared.Trip.{Trip}
 use Rattle.light_write.specs.Codes.{stepsIn}
+use Rattle.search_runs.specs.Runs.{runTables, tableOf}
+use Rattle.search_site.specs.Arrays.{spanAt}
+use Rattle.search_site.specs.Decoded.{StatesDecoded, MotionsDecoded}
+use Rattle.search_reach.specs.Explored.{InArrays, EndsRight}
 use Rattle.search_plan.specs.declared.Traced.{Traced}
 use Rattle.search_plan.specs.declared.Traced.the-variants.{Steps, Missing}
 
@@ -30,3 +35,17 @@ routeOn file board trip = findRoute (siteOf file) (free (siteOf file) board) (no
 unfoldable pub Planned : Option Route → List ℕ → Traced → Type 0
 Planned o path (Steps count arrival) = o ≡ some (record { steps = stepsIn path count; arrival = arrival })
 Planned o path Missing = o ≡ none
+
+-- ---- what is worked out before the search
+
+-- the site in arrays, the tables that its motions need, a free start, and where the tug can unload
+pub record Prepared (file board : List ℕ) (l : Sizes) (trip : Trip) (st mv ends : List ℕ) (tables : ℕ) : Type 0 where
+  pub asked : Asked file l (length board) trip
+  pub arrays : InArrays file l st mv
+  pub states : StatesDecoded file st
+  pub motions : MotionsDecoded file mv
+  pub some : 1 ≤ tables
+  pub few : tables ≤ runTables
+  pub enough : (m : ℕ) → m < l .motions → tableOf (suc (spanAt mv m)) < tables
+  pub start-free : free (siteOf file) board (cellOf (siteOf file) (trip .start)) (trip .tick) ≡ true
+  pub ends-right : EndsRight (siteOf file) (free (siteOf file) board) (trip .goal) (trip .dwell) (trip .tick) ends

@@ -1,2 +1,4 @@
-pub mod AllowLaws
-pub mod LeastLaws
+pub mod ArriveLaws
+pub mod RightLaws
+mod BlockLaws
+mod LoopLaws

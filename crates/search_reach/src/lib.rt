@@ -1,82 +1,130 @@
-// The search over a site in arrays: the ticks at which each motion may begin, and the pairs of state and tick that are reached.
-use search_sizes::REACHED_WORDS;
-use search_sizes::RUN_WORDS;
+// The search over a site in arrays, block by block up to the one in which the tug arrives.
+use search_sizes::BLOCK_TICKS;
+use search_sizes::LISTED;
+use search_sizes::TICKS;
+use site::Sizes;
 ghost use mathlib.Core.Path.{_≡_};
-ghost use mathlib.Core.Bool.{_&&_, true};
-ghost use Prim.Native.Nat.{ℕ, _+_, _*_, _≤_, _<_};
+ghost use mathlib.Core.Bool.{true, false};
+ghost use Prim.Native.Nat.{ℕ, _+_, _*_, _≤_, _<_, min, max};
 ghost use lib.ListN.{length};
-ghost use Rattle.meaning.specs.Plan.{sweepsFree};
-ghost use Rattle.search_sizes.specs.Sizes.{rowWords, rowTicks, freeWords, runRows, runWords};
-ghost use mathlib.Core.List.{List};
-ghost use Rattle.search_ticks.specs.Rows.{has, Words, Changed, rowsFree};
-ghost use Rattle.search_runs.specs.Runs.{Runs};
-ghost use Rattle.search_site.specs.Arrays.{cellAt, States, Motions};
-ghost use Rattle.search_step.specs.Sets.{Closed, Explored};
-ghost use Rattle.site_sweeps.specs.Places.{sweepsAt};
-ghost use Rattle.search_site.specs.Decoded.{SweepsIn, Sweeps};
-ghost use Rattle.search_reach.specs.Reached.{Starts};
+ghost use Rattle.meaning.specs.Site.{siteOf, cellOf};
+ghost use Rattle.meaning.specs.Board.{free};
+ghost use Rattle.meaning.specs.Plan.{node};
+ghost use Rattle.site.specs.Ready.{Ready};
+ghost use Rattle.search_sizes.specs.Sizes.{blockTicks, blocks};
+ghost use Rattle.search_ticks.specs.Rows.{at, has};
+ghost use Rattle.search_runs.specs.Runs.{Tables, Ahead};
+ghost use Rattle.search_step.specs.Sets.{Closed, Within, Kept};
+ghost use Rattle.search_lists.specs.Lists.{Listed};
+ghost use Rattle.search_ends.specs.Ends.{reachedAt, endsOn, First};
+ghost use Rattle.search_reach.specs.Explored.{freeFrom, InArrays, Space, EndsRight};
 
-// ---- allowed starts
-
-// Narrows row m down by the `count` sweeps from `place` on.
-fn allow_one(allowed: &mut [u64], runs: &[u64], sweeps: &[u8], m: usize, place: usize, count: usize)
-    requires { ⌜ (m * rowWords + rowWords ≤ length (now allowed)) × ((runWords ≤ length (now runs)) × Words (now runs)) ⌝ }
-    requires { ⌜ SweepsIn (now sweeps) place count ⌝ }
-    ensures { λ _. ⌜ length (now (allowed .exit)) ≡ length (now (allowed .entry)) ⌝ }
-    ensures { λ _. ⌜ ((f : List ℕ) → Runs f (now (runs .entry)) runRows → Changed (now (allowed .entry)) (now (allowed .exit)) m
-        (λ (t : ℕ). has (now (allowed .entry)) m t && sweepsFree (rowsFree f) (sweepsAt (now (sweeps .entry)) place count) t)) ⌝ }
+fn least(a: usize, b: usize) -> usize
+    ensures { λ r. ⌜ r ≡ min a b ⌝ }
 {
-    let mut i = 0;
-    while i < count {
-        let w = site_sweeps::read_sweep(sweeps, place, i);
-        search_runs::narrow_run(allowed, runs, m, w.cell, w.first as usize, w.last as usize);
-        i += 1;
-    }
+    if a < b { a } else { b }
 }
 
-// The allowed starts of the k motions, a row each, in rows that are full.
-pub fn allow_all(allowed: &mut [u64], frees: &[u64], motions: &[u16], sweeps: &[u8], k: usize)
-    requires { ⌜ (k * rowWords ≤ length (now allowed)) × (freeWords ≤ length (now frees)) ⌝ }
-    requires { ⌜ Motions k (now motions) × Sweeps k (now motions) (now sweeps) ⌝ }
-    requires { ⌜ ((m t : ℕ) → m < k → t < rowTicks → has (now allowed) m t ≡ true) ⌝ }
-    ensures { λ _. ⌜ Starts k (now (motions .entry)) (now (sweeps .entry)) (now (frees .entry)) (now (allowed .exit)) ⌝ }
+fn largest(a: usize, b: usize) -> usize
+    ensures { λ r. ⌜ r ≡ max a b ⌝ }
 {
-    let mut runs = [0u64; RUN_WORDS];
-    search_runs::fill_runs(&mut runs, frees);
-    let mut m = 0;
-    while m < k {
-        let place = search_site::place_of(motions, k, m);
-        let count = search_site::count_of(motions, k, m);
-        allow_one(allowed, &runs, sweeps, m, place, count);
-        m += 1;
-    }
+    if a < b { b } else { a }
 }
 
-// ---- the search
-
-// The pairs that waits and motions reach from the start, if its cell is free.
-pub fn explore(
+// One block: its free ticks and runs, and then all waits and motions that end in it.
+fn explore_block(
+    file: &[u8],
+    sizes: Sizes,
+    board: &[u8],
     states: &[u16],
     motions: &[u16],
-    frees: &[u64],
-    allowed: &[u64],
-    n: usize,
-    k: usize,
+    lists: &[u16; LISTED],
+    tables: usize,
+    block: usize,
+    tab: &mut [u64],
+    allowed: &mut [u64],
+    reached: &mut [u64],
+)
+    requires { ⌜ Ready (now file) (length (now board)) sizes × (InArrays (now file) sizes (now states) (now motions) × (block < blocks)) ⌝ }
+    requires { ⌜ Space sizes (now motions) tables (length (now tab)) (length (now allowed)) (length (now reached)) ⌝ }
+    ensures { λ _. ⌜ (length (now (tab .exit)) ≡ length (now (tab .entry))) × (length (now (allowed .exit)) ≡ length (now (allowed .entry))) ⌝ }
+    ensures { λ _. ⌜ Kept block (now (reached .entry)) (now (reached .exit)) ⌝ }
+    ensures { λ _. ⌜ ((first : ℕ) → first ≤ block → Listed 0 (sizes .motions) (now (motions .entry)) (now (lists .entry))
+        → Ahead (freeFrom (free (siteOf (now (file .entry))) (now (board .entry))) first) (sizes .cells) tables block (now (tab .entry))
+        → Tables (freeFrom (free (siteOf (now (file .entry))) (now (board .entry))) first) (sizes .cells) tables block (now (tab .exit))
+        × (Within (Closed (sizes .states) (sizes .motions) (now (states .entry)) (now (motions .entry)) (now (file .entry)) (freeFrom (free (siteOf (now (file .entry))) (now (board .entry))) first) block) (now (reached .entry)) (now (reached .exit))
+        × Closed (sizes .states) (sizes .motions) (now (states .entry)) (now (motions .entry)) (now (file .entry)) (freeFrom (free (siteOf (now (file .entry))) (now (board .entry))) first) block (has (now (reached .exit))))) ⌝ }
+{
+    search_runs::shift_rows(tab, tables * sizes.cells);
+    search_free::free_block(tab, board, sizes.cells, sizes.horizon, block);
+    search_runs::fill_runs(tab, sizes.cells, tables);
+    search_fixpoint::settle(
+        states,
+        motions,
+        file,
+        tab,
+        allowed,
+        reached,
+        lists,
+        sizes.cells,
+        sizes.states,
+        sizes.motions,
+        block,
+    );
+}
+
+// The first tick from `tick` on at which the goal is reached and the tug can unload, or the tick after the horizon. The reached pairs up to
+// that tick stand in `reached`. The start's cell is free, and the tables are empty at first.
+pub fn explore(
+    file: &[u8],
+    sizes: Sizes,
+    board: &[u8],
+    states: &[u16],
+    motions: &[u16],
+    tables: usize,
+    ends: &[u8; TICKS],
     start: usize,
     tick: usize,
-) -> [u64; REACHED_WORDS]
-    requires { ⌜ States n (now states) × Motions k (now motions) ⌝ }
-    requires { ⌜ (freeWords ≤ length (now frees)) × (k * rowWords ≤ length (now allowed)) ⌝ }
-    requires { ⌜ (start < n) × (tick < rowTicks) ⌝ }
-    ensures { λ l. ⌜ Explored (Closed n k (now (states .entry)) (now (motions .entry)) (now (frees .entry)) (now (allowed .entry)))
-        (now (frees .entry)) (cellAt (now (states .entry)) start) start tick l ⌝ }
+    goal: usize,
+    tab: &mut [u64],
+    allowed: &mut [u64],
+    reached: &mut [u64],
+) -> usize
+    requires { ⌜ Ready (now file) (length (now board)) sizes × InArrays (now file) sizes (now states) (now motions) ⌝ }
+    requires { ⌜ Space sizes (now motions) tables (length (now tab)) (length (now allowed)) (length (now reached)) ⌝ }
+    requires { ⌜ ((j : ℕ) → at (now tab) j ≡ false) × ((j : ℕ) → at (now reached) j ≡ false) ⌝ }
+    requires { ⌜ (start < sizes .states) × ((goal < sizes .states) × (tick ≤ sizes .horizon)) ⌝ }
+    requires { ⌜ free (siteOf (now file)) (now board) (cellOf (siteOf (now file)) start) tick ≡ true ⌝ }
+    ensures { λ r. ⌜ (length (now (reached .exit)) ≡ length (now (reached .entry))) × (tick ≤ r) ⌝ }
+    ensures { λ r. ⌜ ((dwell : ℕ) → EndsRight (siteOf (now (file .entry))) (free (siteOf (now (file .entry))) (now (board .entry))) goal dwell tick (now (ends .entry))
+        → First (endsOn (siteOf (now (file .entry))) (free (siteOf (now (file .entry))) (now (board .entry))) (node start tick) goal dwell) tick (sizes .horizon + 1) r) ⌝ }
+    ensures { λ r. ⌜ (r ≤ sizes .horizon → (s t : ℕ) → t ≤ r
+        → has (now (reached .exit)) s (blockTicks + t) ≡ reachedAt (siteOf (now (file .entry))) (free (siteOf (now (file .entry))) (now (board .entry))) (node start tick) s t) ⌝ }
 {
-    let mut reached = [0u64; REACHED_WORDS];
-    let cell = search_site::cell_of(states, n, start);
-    if search_ticks::is_set(frees, cell, tick) {
-        search_ticks::seed(&mut reached, start, tick);
-        search_fixpoint::settle(states, motions, frees, allowed, &mut reached, n, k);
-        return reached;
+    let lists = search_lists::lists_of(motions, sizes.motions, 0);
+    search_ticks::seed(reached, start, tick);
+    let mut block = tick / BLOCK_TICKS;
+    while block * BLOCK_TICKS <= sizes.horizon {
+        explore_block(
+            file,
+            sizes,
+            board,
+            states,
+            motions,
+            &lists,
+            tables,
+            block,
+            tab,
+            allowed,
+            reached,
+        );
+        let low = largest(block * BLOCK_TICKS, tick);
+        let high = least(block * BLOCK_TICKS + BLOCK_TICKS, sizes.horizon + 1);
+        let arrival = search_ends::first_end(reached, ends, goal, low, high);
+        if arrival < high {
+            return arrival;
+        }
+        block += 1;
     }
-    reached
+    sizes.horizon + 1
 }

@@ -1,1 +1,4 @@
-pub mod RunLaws
+pub mod EndedLaws
+pub mod LengthLaws
+mod WordLaws
+mod TableLaws

@@ -1,43 +1,58 @@
--- The ticks from which a cell stays free for some ticks together, as rows of words of which the last 4 stay 0.
+-- Runs of free positions as tables of rows. A row has the positions of a block and of the one before it (see search_sizes), a table has a
+-- row for each cell, and the tables stand one after the other.
 -- Assumes nothing.
-use Prim.Native.Nat.{ℕ, _+_, _*_, _/_, _%_, _^_, _≤_, _<_}
+use Prim.Native.Nat.{ℕ, zero, suc, _+_, _-_, _*_, _^_, _<_}
 use mathlib.Core.Path.{_≡_}
-use mathlib.Core.Bool.{Bool, false, _&&_}
+use mathlib.Core.Bool.{Bool, true, cond, _&&_}
 use mathlib.Core.List.{List}
+use lib.Dec.{ltb}
 use lib.ListN.{length}
-use Rattle.meaning.specs.Basics.{allFrom}
-use Rattle.search_sizes.specs.Sizes.{rowTicks, paddedTicks, levelRows, runWords}
-use Rattle.search_ticks.specs.Rows.{at, has, Words, rowsFree}
+use Rattle.search_sizes.specs.Sizes.{blockTicks, windowTicks, blockStart}
+use Rattle.search_ticks.specs.Rows.{at}
 
--- in row m, and row r of the runs has the tick that is `later` ticks later
-abbrev pub narrowed : List ℕ → List ℕ → ℕ → ℕ → ℕ → ℕ → Bool
-narrowed l x m r later t = has l m t && at x (r * paddedTicks + (t + later))
+-- the n positions that end at u are in the set
+unfoldable pub ended : (ℕ → Bool) → ℕ → ℕ → Bool
+ended g zero u = true
+ended g (suc n) u = g (u - n) && ended g n u
 
--- row r has the tick t, and the tick that is k ticks later
-abbrev pub twice : List ℕ → ℕ → ℕ → ℕ → Bool
-twice x r k t = at x (r * paddedTicks + t) && at x (r * paddedTicks + (t + k))
+abbrev pub runTables : ℕ
+runTables = 12
 
--- n words of 0
-pub record Blank (n : ℕ) (x : List ℕ) : Type 0 where
-  pub none : (j : ℕ) → at x j ≡ false
-  pub fits : Words x
-  pub sized : length x ≡ n
+-- how long the runs of table t are: 1 to 8, and then 16, 32, 64 and 128
+unfoldable pub runLength : ℕ → ℕ
+runLength t = cond (ltb t 8) (suc t) (2 ^ (t - 4))
 
--- y is x with the ticks of the test, up to 1023, as row r
-pub record Placed (x y : List ℕ) (r : ℕ) (test : ℕ → Bool) : Type 0 where
-  pub here : (t : ℕ) → t < rowTicks → at y (r * paddedTicks + t) ≡ test t
-  pub before : (j : ℕ) → j < r * paddedTicks → at y j ≡ at x j
-  pub after : (j : ℕ) → r * paddedTicks + rowTicks ≤ j → at y j ≡ at x j
-  pub fits : Words y
-  pub sized : length y ≡ length x
+-- the table with the longest runs of at most n positions
+unfoldable pub tableOf : ℕ → ℕ
+tableOf n =
+    cond (ltb n 9) (n - 1) (cond (ltb n 16) 7 (cond (ltb n 32) 8 (cond (ltb n 64) 9 (cond (ltb n 128) 10 11))))
 
--- the ticks from which the cell of row r is free for as many ticks as the runs of its level have
-abbrev pub runOf : List ℕ → ℕ → ℕ → Bool
-runOf f r t = allFrom (rowsFree f (r % levelRows)) t (2 ^ (r / levelRows))
+-- ---- rows
 
--- the rows below n are the runs, and the others are empty
-pub record Runs (f x : List ℕ) (n : ℕ) : Type 0 where
-  pub done : (r t : ℕ) → r < n → t < paddedTicks → at x (r * paddedTicks + t) ≡ runOf f r t
-  pub left : (r t : ℕ) → n ≤ r → t < paddedTicks → at x (r * paddedTicks + t) ≡ false
-  pub fits : Words x
-  pub sized : length x ≡ runWords
+-- what each row had in the block, it has in the one before
+pub record Shifted (tab₀ tab : List ℕ) (rows : ℕ) : Type 0 where
+  pub moved : (r i : ℕ) → r < rows → i < blockTicks → at tab (r * windowTicks + i) ≡ at tab₀ (r * windowTicks + blockTicks + i)
+  pub sized : length tab ≡ length tab₀
+
+-- row r has in the block the position with that number, and the one that is `back` earlier
+abbrev pub longer : List ℕ → ℕ → ℕ → ℕ → Bool
+longer tab r back i = at tab (r * windowTicks + blockTicks + i) && at tab (r * windowTicks + (blockTicks - back) + i)
+
+-- ---- tables, where g has the free positions of each cell
+
+module _ (g : ℕ → ℕ → Bool) (cells tables b : ℕ) (tab : List ℕ) where
+  -- the tables are right in the block before b
+  abbrev pub Halves : Type 0
+  Halves = (t c i : ℕ) → t < tables → c < cells → i < blockTicks → at tab ((t * cells + c) * windowTicks + i) ≡ ended (g c) (runLength t) (blockTicks * b + i)
+
+  -- and in block b too
+  abbrev pub Tables : Type 0
+  Tables = (t c i : ℕ) → t < tables → c < cells → i < windowTicks → at tab ((t * cells + c) * windowTicks + i) ≡ ended (g c) (runLength t) (blockTicks * b + i)
+
+  -- what a block leaves for the next one, b: the tables are right in the block before it, which the rows still have as theirs
+  abbrev pub Ahead : Type 0
+  Ahead = (t c i : ℕ) → t < tables → c < cells → i < blockTicks → at tab ((t * cells + c) * windowTicks + blockTicks + i) ≡ ended (g c) (runLength t) (blockTicks * b + i)
+
+-- the first rows are the free positions of the cells in block b
+abbrev pub FirstTable : (ℕ → ℕ → Bool) → ℕ → ℕ → List ℕ → Type 0
+FirstTable g cells b tab = (c i : ℕ) → c < cells → i < blockTicks → at tab (c * windowTicks + blockTicks + i) ≡ g c (blockStart b + i)

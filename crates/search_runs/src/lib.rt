@@ -1,150 +1,130 @@
-// The ticks from which a cell stays free for 1, 2, 4, 8 and 16 ticks, and the narrowing of a row by them.
-use search_sizes::CELLS;
-use search_sizes::DOUBLED_ROWS;
-use search_sizes::LEVEL_ROWS;
-use search_sizes::PADDED_WORDS;
-use search_sizes::ROW_WORDS;
-use search_sizes::RUN_WORDS;
+// The runs of free ticks: which ticks of a block end as many free ticks of a cell as the runs of a table have.
+use search_sizes::BLOCK_TICKS;
+use search_sizes::BLOCK_WORDS;
+use search_sizes::WINDOW_WORDS;
 ghost use mathlib.Core.Path.{_≡_};
-ghost use mathlib.Core.Bool.{_&&_};
-ghost use Prim.Native.Nat.{ℕ, _+_, _*_, _^_, _≤_, _<_};
-ghost use mathlib.Core.List.{List};
+ghost use mathlib.Core.Bool.{Bool};
+ghost use Prim.Native.Nat.{ℕ, _+_, _*_, _≤_, _<_};
 ghost use lib.ListN.{length};
-ghost use Rattle.meaning.specs.Plan.{freeFromTo};
-ghost use Rattle.search_sizes.specs.Sizes.{rowWords, paddedWords, spanLimit, cellRows, freeWords, levelRows, doubledRows, runRows, runWords};
-ghost use Rattle.search_ticks.specs.Rows.{has, Words, Changed, rowsFree};
-ghost use Rattle.search_runs.specs.Runs.{narrowed, twice, Blank, Placed, Runs};
+ghost use Rattle.search_sizes.specs.Sizes.{blockTicks, windowWords, windowTicks};
+ghost use Rattle.search_ticks.specs.Rows.{at, Put};
+ghost use Rattle.search_runs.specs.Runs.{runTables, runLength, tableOf, Shifted, longer, Halves, FirstTable, Tables};
 
-// ---- the runs: rows of words of which the last 4 stay 0, so that a shift down may read past a row.
-// Row c of level j has the ticks from which cell c is free for 2 ^ j ticks, j up to 4.
+// ---- the tables: rows of a block and the one before it, one a cell, table after table
 
-// Row c of the free ticks as row c of the runs.
-fn copy_row(runs: &mut [u64], f: &[u64], c: usize)
-    requires { ⌜ (c * paddedWords + rowWords ≤ length (now runs)) × ((c * rowWords + rowWords ≤ length (now f)) × Words (now runs)) ⌝ }
-    ensures { λ _. ⌜ Placed (now (runs .entry)) (now (runs .exit)) c (has (now (f .entry)) c) ⌝ }
+// How many ticks a run of table t has: 1 to 8, and then 16, 32, 64 and 128.
+pub fn length_of(t: usize) -> usize
+    requires { ⌜ t < runTables ⌝ }
+    ensures { λ r. ⌜ (r ≡ runLength t) × ((1 ≤ r) × (r ≤ 128)) ⌝ }
 {
-    let a = c * PADDED_WORDS;
-    let b = c * ROW_WORDS;
-    let mut i = 0;
-    while i < ROW_WORDS {
-        runs[a + i] = f[b + i];
-        i += 1;
+    if t < 8 {
+        return t + 1;
     }
+    if t == 8 {
+        return 16;
+    }
+    if t == 9 {
+        return 32;
+    }
+    if t == 10 {
+        return 64;
+    }
+    128
 }
 
-// The ticks of row r at which row r has the tick that is k ticks later too, as the row of the same cell a level higher.
-fn double_row(runs: &mut [u64], r: usize, k: usize)
-    requires { ⌜ ((r + levelRows) * paddedWords + rowWords ≤ length (now runs)) × ((r < doubledRows) × ((k < 64) × Words (now runs))) ⌝ }
-    ensures { λ _. ⌜ Placed (now (runs .entry)) (now (runs .exit)) (r + levelRows) (twice (now (runs .entry)) r k) ⌝ }
+// The table with the longest runs of at most n ticks.
+pub fn table_of(n: usize) -> usize
+    requires { ⌜ 1 ≤ n ⌝ }
+    ensures { λ r. ⌜ (r ≡ tableOf n) × (r < runTables) ⌝ }
 {
-    let a = (r + LEVEL_ROWS) * PADDED_WORDS;
-    let b = r * PADDED_WORDS;
-    let later = k as u64;
-    let mut i = 0;
-    while i < ROW_WORDS {
-        let word = runs[b + i];
-        runs[a + i] = word & search_ticks::window(word, runs[b + i + 1], later);
-        i += 1;
+    if n < 9 {
+        return n - 1;
     }
-}
-
-// The runs of one tick of every cell, in words of 0.
-fn single_runs(runs: &mut [u64; RUN_WORDS], f: &[u64])
-    requires { ⌜ Blank runWords (now runs) × (freeWords ≤ length (now f)) ⌝ }
-    ensures { λ _. ⌜ Runs (now (f .entry)) (now (runs .exit)) levelRows ⌝ }
-{
-    let mut c = 0;
-    while c < CELLS {
-        copy_row(runs, f, c);
-        c += 1;
+    if n < 16 {
+        return 7;
     }
-}
-
-// The size of the runs of level j.
-fn size_of(j: usize) -> usize
-    requires { ⌜ j ≤ 4 ⌝ }
-    ensures { λ r. ⌜ (r ≡ 2 ^ j) × ((1 ≤ r) × (r ≤ 16)) ⌝ }
-{
-    if j == 0 {
-        return 1;
-    }
-    if j == 1 {
-        return 2;
-    }
-    if j == 2 {
-        return 4;
-    }
-    if j == 3 {
+    if n < 32 {
         return 8;
     }
-    16
+    if n < 64 {
+        return 9;
+    }
+    if n < 128 {
+        return 10;
+    }
+    11
 }
 
-// The runs of every cell, in words of 0.
-pub fn fill_runs(runs: &mut [u64; RUN_WORDS], f: &[u64])
-    requires { ⌜ Blank runWords (now runs) × (freeWords ≤ length (now f)) ⌝ }
-    ensures { λ _. ⌜ Runs (now (f .entry)) (now (runs .exit)) runRows ⌝ }
+// ---- the next block
+
+// The block of row r becomes the one before.
+fn shift_row(tab: &mut [u64], r: usize)
+    requires { ⌜ r * windowWords + windowWords ≤ length (now tab) ⌝ }
+    ensures { λ _. ⌜ Put (now (tab .entry)) (now (tab .exit)) (r * windowTicks) (λ i. at (now (tab .entry)) (r * windowTicks + blockTicks + i)) ⌝ }
 {
-    single_runs(runs, f);
+    let a = r * WINDOW_WORDS;
+    let mut i = 0;
+    while i < BLOCK_WORDS {
+        tab[a + i] = tab[a + BLOCK_WORDS + i];
+        i += 1;
+    }
+}
+
+// The block of each row becomes the one before.
+pub fn shift_rows(tab: &mut [u64], rows: usize)
+    requires { ⌜ rows * windowWords ≤ length (now tab) ⌝ }
+    ensures { λ _. ⌜ Shifted (now (tab .entry)) (now (tab .exit)) rows ⌝ }
+{
     let mut r = 0;
-    while r < DOUBLED_ROWS {
-        double_row(runs, r, size_of(r / LEVEL_ROWS));
+    while r < rows {
+        shift_row(tab, r);
         r += 1;
     }
 }
 
-// ---- narrowing
-
-// The highest level whose runs are no longer than n ticks.
-fn level_of(n: usize) -> usize
-    requires { ⌜ 1 ≤ n ⌝ }
-    ensures { λ r. ⌜ (r ≤ 4) × (2 ^ r ≤ n) ⌝ }
+// The second half of row q: the ticks of row r at which row r has the tick that is `back` earlier too.
+fn longer_row(tab: &mut [u64], r: usize, q: usize, back: usize)
+    requires { ⌜ (r < q) × ((q * windowWords + windowWords ≤ length (now tab)) × ((1 ≤ back) × (back ≤ 64))) ⌝ }
+    ensures { λ _. ⌜ Put (now (tab .entry)) (now (tab .exit)) (q * windowTicks + blockTicks) (longer (now (tab .entry)) r back) ⌝ }
 {
-    if n < 2 {
-        return 0;
-    }
-    if n < 4 {
-        return 1;
-    }
-    if n < 8 {
-        return 2;
-    }
-    if n < 16 {
-        return 3;
-    }
-    4
-}
-
-// Keeps of row m the ticks t at which row r of the runs has the tick t + later.
-fn narrow(k: &mut [u64], runs: &[u64], m: usize, r: usize, later: usize)
-    requires { ⌜ (m * rowWords + rowWords ≤ length (now k)) × ((r * paddedWords + paddedWords ≤ length (now runs)) × ((later ≤ spanLimit) × Words (now runs))) ⌝ }
-    ensures { λ _. ⌜ Changed (now (k .entry)) (now (k .exit)) m (narrowed (now (k .entry)) (now (runs .entry)) m r later) ⌝ }
-{
-    let a = m * ROW_WORDS;
-    let b = r * PADDED_WORDS + later / 64;
-    let d = (later % 64) as u64;
+    let a = r * WINDOW_WORDS + BLOCK_WORDS;
+    let b = r * WINDOW_WORDS + (BLOCK_TICKS - back) / 64;
+    let d = q * WINDOW_WORDS + BLOCK_WORDS;
+    let e = ((BLOCK_TICKS - back) % 64) as u64;
     let mut i = 0;
-    while i < ROW_WORDS {
-        k[a + i] = k[a + i] & search_ticks::window(runs[b + i], runs[b + i + 1], d);
+    while i < BLOCK_WORDS {
+        tab[d + i] = tab[a + i] & search_ticks::window(tab[b + i], tab[b + i + 1], e);
         i += 1;
     }
 }
 
-// Keeps of row m the ticks t at which cell c is free from t + first to t + last: runs, one after the other, and a last one up to the end.
-pub fn narrow_run(k: &mut [u64], runs: &[u64], m: usize, c: usize, first: usize, last: usize)
-    requires { ⌜ (m * rowWords + rowWords ≤ length (now k)) × ((c < cellRows) × ((first ≤ last) × (last ≤ spanLimit))) ⌝ }
-    requires { ⌜ (runWords ≤ length (now runs)) × Words (now runs) ⌝ }
-    ensures { λ _. ⌜ length (now (k .exit)) ≡ length (now (k .entry)) ⌝ }
-    ensures { λ _. ⌜ ((f : List ℕ) → Runs f (now (runs .entry)) runRows → Changed (now (k .entry)) (now (k .exit)) m
-        (λ (t : ℕ). has (now (k .entry)) m t && freeFromTo (rowsFree f) c (t + first) (t + last))) ⌝ }
+// Table t from the one before it, for every cell.
+fn longer_runs(tab: &mut [u64], cells: usize, t: usize)
+    requires { ⌜ (1 ≤ t) × ((t < runTables) × ((t + 1) * cells * windowWords ≤ length (now tab))) ⌝ }
+    requires { ⌜ length (now tab) < 65536 ⌝ }
+    ensures { λ _. ⌜ length (now (tab .exit)) ≡ length (now (tab .entry)) ⌝ }
+    ensures { λ _. ⌜ ((g : ℕ → ℕ → Bool) (tables b : ℕ) → t < tables → Halves g cells tables b (now (tab .entry)) → Tables g cells t b (now (tab .entry))
+        → Halves g cells tables b (now (tab .exit)) × Tables g cells (t + 1) b (now (tab .exit))) ⌝ }
 {
-    let level = level_of(last - first + 1);
-    let size = size_of(level);
-    let row = level * LEVEL_ROWS + c;
-    let mut at = first;
-    while at + size <= last {
-        narrow(k, runs, m, row, at);
-        at += size;
+    let back = length_of(t) - length_of(t - 1);
+    let mut c = 0;
+    while c < cells {
+        longer_row(tab, (t - 1) * cells + c, t * cells + c, back);
+        c += 1;
     }
-    narrow(k, runs, m, row, last + 1 - size);
+}
+
+// The tables of a block, from the first one and what is kept of the block before.
+pub fn fill_runs(tab: &mut [u64], cells: usize, tables: usize)
+    requires { ⌜ (1 ≤ tables) × ((tables ≤ runTables) × (tables * cells * windowWords ≤ length (now tab))) ⌝ }
+    requires { ⌜ length (now tab) < 65536 ⌝ }
+    ensures { λ _. ⌜ length (now (tab .exit)) ≡ length (now (tab .entry)) ⌝ }
+    ensures { λ _. ⌜ ((g : ℕ → ℕ → Bool) (b : ℕ) → Halves g cells tables b (now (tab .entry)) → FirstTable g cells b (now (tab .entry))
+        → Tables g cells tables b (now (tab .exit))) ⌝ }
+{
+    let mut t = 1;
+    while t < tables {
+        longer_runs(tab, cells, t);
+        t += 1;
+    }
 }

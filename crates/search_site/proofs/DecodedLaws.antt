@@ -12,12 +12,12 @@ use Rattle.meaning.specs.WellFormed.{WellFormed}
 use Rattle.meaning.proofs.BasicsLaws.{each-at}
 use Rattle.meaning.proofs.SiteLaws.{read-well, read-passes}
 use Rattle.meaning.proofs.MotionLaws.{good-at, cell-known}
-use Rattle.search_sizes.specs.Sizes.{cellRows, stateNumbers, motionNumbers}
+use Rattle.search_sizes.specs.Sizes.{stateNumbers, motionNumbers}
 use Rattle.site_sweeps.specs.Places.{sweepAt}
 use Rattle.site_sweeps.proofs.Laws.{sweeps-length, sweeps-at}
 use Rattle.site_read.specs.declared.Motion as ReadMotion
 use Rattle.site_read.specs.Motions.{MotionIs}
-use Rattle.search_site.specs.Arrays.{States, Motions}
+use Rattle.search_site.specs.Arrays.{States, Motions, CellsBelow, Leads}
 use Rattle.search_site.specs.Decoded.{Decoded, SweepsIn, Sweeps, StatesDecoded, FitsU16, motionIn, MotionsDecoded}
 
 module _ (file : List ℕ) (e : readSite file ≡ accepted (siteOf file)) where
@@ -48,19 +48,19 @@ module _ (file : List ℕ) (e : readSite file ≡ accepted (siteOf file)) where
         record { from = omega arith; to = omega arith; first = omega arith; count = omega arith }
 
     -- each of its sweeps, where it stands in the file
-    sweep-fits : (j : ℕ) → j < r .count → let w = sweepAt file (r .first + sweepSize * j) in (w .cell < cellRows) × (w .first ≤ w .last)
+    sweep-fits : (j : ℕ) → j < r .count → let w = sweepAt file (r .first + sweepSize * j) in (w .cell < site .cells) × ((w .first ≤ w .last) × (w .last ≤ r .span))
     sweep-fits j q =
         let ws = motionAt site m .sweeps in
         let none : Sweep = record { cell = 0; first = 0; last = 0 } in
         let c = sweeps-count in
+        let d = shows .span in
         let fit = each-at _ ws none (good-at site well m h .sweeps-fit) j (omega arith) in
-        let few = well .cells-range .1 in
-        let below : getD ws j none .cell < cellRows = omega arith in
+        let end : getD ws j none .last ≤ r .span = omega arith in
         let here = ap (λ (l : List Sweep). getD l j none) (sym (shows .sweeps)) ∙ sweeps-at j (r .count) file (r .first) none q (shows .inside) in
-        subst (λ (w : Sweep). (w .cell < cellRows) × (w .first ≤ w .last)) here (below, fit .1)
+        subst (λ (w : Sweep). (w .cell < site .cells) × ((w .first ≤ w .last) × (w .last ≤ r .span))) here (fit .0, (fit .1, end))
 
-    sweeps-in : SweepsIn file (r .first) (r .count)
-    sweeps-in = record { long = shows .inside; cell = λ j q. sweep-fits j q .0; order = λ j q. sweep-fits j q .1 }
+    sweeps-in : SweepsIn (site .cells) (r .span) file (r .first) (r .count)
+    sweeps-in = record { long = shows .inside; cell = λ j q. sweep-fits j q .0; order = λ j q. sweep-fits j q .1 .0; end = λ j q. sweep-fits j q .1 .1 }
 
   -- ---- the arrays
 
@@ -77,6 +77,12 @@ module _ (file : List ℕ) (e : readSite file ≡ accepted (siteOf file)) where
               let b = cell-known site well s (omega arith) in
               omega arith;
         }
+
+    pub cells-below : (n : ℕ) → n ≡ length (site .states) → CellsBelow (site .cells) n st
+    cells-below n p s h =
+        let c = held s (omega arith) .0 in
+        let b = cell-known site well s (omega arith) in
+        omega arith
 
   module _ (mv : List ℕ) (held : MotionsDecoded file mv) where
     pub motions-fit : (k : ℕ) → k ≡ length (site .motions) → motionNumbers ≤ length mv → Motions k mv
@@ -96,7 +102,15 @@ module _ (file : List ℕ) (e : readSite file ≡ accepted (siteOf file)) where
               (omega arith, omega arith);
         }
 
-    pub sweeps-fit : (k : ℕ) → k ≡ length (site .motions) → Sweeps k mv file
+    pub motions-lead : (n k : ℕ) → n ≡ length (site .states) → k ≡ length (site .motions) → Leads n k mv
+    motions-lead n k p q =
+        record {
+          from = λ m h. let x = held m (omega arith) .shows .from in let b = good-at site well m (omega arith) .from-below in omega arith;
+          to = λ m h. let x = held m (omega arith) .shows .to in let b = good-at site well m (omega arith) .to-below in omega arith;
+          apart = λ m h e. let x = held m (omega arith) .shows in good-at site well m (omega arith) .differ (sym (x .from) ∙ e ∙ x .to);
+        }
+
+    pub sweeps-fit : (k : ℕ) → k ≡ length (site .motions) → Sweeps (site .cells) k mv file
     sweeps-fit k p m h = let q : m < length (site .motions) = omega arith in sweeps-in m (motionIn mv m) q (held m q .shows)
 
   pub decoded : (st mv : List ℕ) → StatesDecoded file st → MotionsDecoded file mv → (n k : ℕ) → n ≡ length (site .states) → k ≡ length (site .motions)

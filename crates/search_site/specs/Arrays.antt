@@ -2,6 +2,7 @@
 -- its sweeps and how many there are).
 -- Assumes nothing.
 use Prim.Native.Nat.{ℕ, _+_, _*_, _≤_, _<_}
+use mathlib.Core.Path.{_≡_}
 use mathlib.Core.List.{List}
 use lib.ListN.{length, getD}
 use Rattle.search_sizes.specs.Sizes.{cellRows, stateRows, motionRows, spanLimit}
@@ -40,3 +41,15 @@ pub record Motions (k : ℕ) (mv : List ℕ) : Type 0 where
   pub from : (m : ℕ) → m < k → fromAt mv m < stateRows
   pub to : (m : ℕ) → m < k → toAt mv m < stateRows
   pub span : (m : ℕ) → m < k → (1 ≤ spanAt mv m) × (spanAt mv m ≤ spanLimit)
+
+-- ---- what a search over a site may rely on beside that
+
+-- the cells of n states
+abbrev pub CellsBelow : ℕ → ℕ → List ℕ → Type 0
+CellsBelow cells n st = (s : ℕ) → s < n → cellAt st s < cells
+
+-- each of k motions leads from one of n states to another one
+pub record Leads (n k : ℕ) (mv : List ℕ) : Type 0 where
+  pub from : (m : ℕ) → m < k → fromAt mv m < n
+  pub to : (m : ℕ) → m < k → toAt mv m < n
+  pub apart : (m : ℕ) → m < k → fromAt mv m ≡ toAt mv m → ⊥

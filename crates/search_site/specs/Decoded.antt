@@ -6,7 +6,6 @@ use mathlib.Core.List.{List}
 use lib.ListN.{length, set}
 use Rattle.meaning.specs.Limits.{sweepSize}
 use Rattle.meaning.specs.Site.{Site, Sweep, siteOf, stateAt, motionAt}
-use Rattle.search_sizes.specs.Sizes.{cellRows}
 use Rattle.site_sweeps.specs.Places.{sweepAt, sweepsAt}
 use Rattle.site_read.specs.Motions.{MotionIs}
 use Rattle.site_read.specs.declared.Motion as ReadMotion
@@ -30,14 +29,15 @@ pub record Decoded (site : Site) (n k : ℕ) (st mv sw : List ℕ) : Type 0 wher
 
 -- ---- what keeps each index of the sweeps in range
 
--- n sweeps from place p on: within the bytes, of known cells, and none ends before it begins
-pub record SweepsIn (sw : List ℕ) (p n : ℕ) : Type 0 where
+-- n sweeps from place p on: within the bytes, of known cells, none ends before it begins, and none past the span
+pub record SweepsIn (cells span : ℕ) (sw : List ℕ) (p n : ℕ) : Type 0 where
   pub long : p + sweepSize * n ≤ length sw
-  pub cell : (i : ℕ) → i < n → sweepAt sw (p + sweepSize * i) .cell < cellRows
+  pub cell : (i : ℕ) → i < n → sweepAt sw (p + sweepSize * i) .cell < cells
   pub order : (i : ℕ) → i < n → sweepAt sw (p + sweepSize * i) .first ≤ sweepAt sw (p + sweepSize * i) .last
+  pub end : (i : ℕ) → i < n → sweepAt sw (p + sweepSize * i) .last ≤ span
 
-abbrev pub Sweeps : ℕ → List ℕ → List ℕ → Type 0
-Sweeps k mv sw = (m : ℕ) → m < k → SweepsIn sw (placeAt mv m) (countAt mv m)
+abbrev pub Sweeps : ℕ → ℕ → List ℕ → List ℕ → Type 0
+Sweeps cells k mv sw = (m : ℕ) → m < k → SweepsIn cells (spanAt mv m) sw (placeAt mv m) (countAt mv m)
 
 -- ---- the states, stored
 

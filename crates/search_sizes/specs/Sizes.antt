@@ -1,23 +1,39 @@
 -- The sizes of the search's tables, as clauses name them.
 -- Assumes nothing.
-use Prim.Native.Nat.{ℕ}
+use Prim.Native.Nat.{ℕ, _+_, _*_}
 
--- words and ticks of a row
+-- words and ticks of a block, and the number of blocks
+abbrev pub blockWords : ℕ
+blockWords = 4
+
+abbrev pub blockTicks : ℕ
+blockTicks = 256
+
+abbrev pub blocks : ℕ
+blocks = 4
+
+-- a block and the one before it
+abbrev pub windowWords : ℕ
+windowWords = 8
+
+abbrev pub windowTicks : ℕ
+windowTicks = 512
+
+-- a row: a block that stays empty, and all blocks
 abbrev pub rowWords : ℕ
-rowWords = 16
+rowWords = 20
 
 abbrev pub rowTicks : ℕ
-rowTicks = 1024
+rowTicks = 1280
 
--- ticks that stay 0 beside a row, and the words and the ticks of a row with them
-abbrev pub paddingTicks : ℕ
-paddingTicks = 256
+-- the ticks of all blocks
+abbrev pub ticks : ℕ
+ticks = 1024
 
-abbrev pub paddedWords : ℕ
-paddedWords = 20
-
-abbrev pub paddedTicks : ℕ
-paddedTicks = 1280
+-- A position is a tick counted from one block before tick 0, so that no span leads below 0: tick t is at position blockTicks + t.
+-- The window of block b starts at position blockTicks * b, and the block itself here.
+abbrev pub blockStart : ℕ → ℕ
+blockStart b = blockTicks * b + blockTicks
 
 -- the longest span, which one byte holds
 abbrev pub spanLimit : ℕ
@@ -33,20 +49,6 @@ stateRows = 256
 abbrev pub motionRows : ℕ
 motionRows = 2000
 
--- the last state's row
-abbrev pub lastState : ℕ
-lastState = 255
-
--- words of the free ticks, of the reached pairs, and of the allowed starts
-abbrev pub freeWords : ℕ
-freeWords = 4096
-
-abbrev pub reachedWords : ℕ
-reachedWords = 4096
-
-abbrev pub allowedWords : ℕ
-allowedWords = 32000
-
 -- numbers of the states, two each, and of the motions, five each
 abbrev pub stateNumbers : ℕ
 stateNumbers = 512
@@ -54,19 +56,22 @@ stateNumbers = 512
 abbrev pub motionNumbers : ℕ
 motionNumbers = 10000
 
--- rows of one level of runs, of all levels but the last, of all levels, and their words
-abbrev pub levelRows : ℕ
-levelRows = 256
-
-abbrev pub doubledRows : ℕ
-doubledRows = 1024
-
-abbrev pub runRows : ℕ
-runRows = 1280
-
-abbrev pub runWords : ℕ
-runWords = 25600
-
 -- numbers of the lists of motions
 abbrev pub listed : ℕ
 listed = 2256
+
+-- rows of tables, motions and states of a small site, and rows and motions of most others
+abbrev pub smallRows : ℕ
+smallRows = 64
+
+abbrev pub smallMotions : ℕ
+smallMotions = 64
+
+abbrev pub smallStates : ℕ
+smallStates = 32
+
+abbrev pub middleRows : ℕ
+middleRows = 1024
+
+abbrev pub middleMotions : ℕ
+middleMotions = 1024

@@ -1,37 +1,47 @@
--- Some steps after others: what they set stays inside every closed set that they began in.
+-- Some steps after others.
 -- Assumes nothing.
-use Prim.Native.Nat.{ℕ, _<_}
+use Prim.Native.Nat.{ℕ}
 use mathlib.Core.Path.{refl, _∙_}
+use mathlib.Core.Bool.{Bool}
 use mathlib.Core.List.{List}
-use Rattle.search_step.specs.Sets.{Pairs, WaitClosed, MoveClosed, Below, Closed, Step, Going}
+use Rattle.search_step.specs.Sets.{Pairs, Kept}
+use Rattle.search_step.proofs.StepLaws.{kept-start}
+use Rattle.search_spread.specs.Spread.{Stepped}
 
-pub going-start : (C : Pairs → Type 0) (l : List ℕ) → Going C l l
-going-start C l = record { within = λ R c i. i; kept = λ s t h e. e; sized = refl }
-
-pub going-then : (C : Pairs → Type 0) (l₀ l l′ : List ℕ) → Going C l₀ l → Going C l l′ → Going C l₀ l′
-going-then C l₀ l l′ g h =
+kept-then : (b : ℕ) (l₀ l l′ : List ℕ) → Kept b l₀ l → Kept b l l′ → Kept b l₀ l′
+kept-then b l₀ l l′ p q =
     record {
-      within = λ R c i. h .within R c (g .within R c i);
-      kept = λ x t lt e. h .kept x t lt (g .kept x t lt e);
-      sized = h .sized ∙ g .sized;
+      inside = λ s u h e. q .inside s u h (p .inside s u h e);
+      early = λ s u h. q .early s u h ∙ p .early s u h;
+      sized = q .sized ∙ p .sized;
     }
 
--- closed under more
-going-more : (C D : Pairs → Type 0) → ((R : Pairs) → D R → C R) → (l₀ l : List ℕ) → Going C l₀ l → Going D l₀ l
-going-more C D f l₀ l g = record { within = λ R d. g .within R (f R d); kept = g .kept; sized = g .sized }
+module _ {cells n k b : ℕ} {st mv sw tab : List ℕ} where
+  pub stepped-start : (known al l : List ℕ) {C : (ℕ → ℕ → Bool) → Pairs → Type 0} {Q : (ℕ → ℕ → Bool) → Type 0} → ((g : ℕ → ℕ → Bool) → Q g)
+      → Stepped cells n k b st mv sw tab known al l known al l C Q
+  stepped-start known al l q = record { kept = kept-start b l; sized = refl; right = λ g right ready. (ready, (λ R c inside. inside, q g)) }
 
-pub going-one : (C : ℕ → Pairs → Type 0) (n i : ℕ) (l₀ l l′ : List ℕ) (d : ℕ) → i < n → Going (Below C n) l₀ l → Step (C i) l l′ d → Going (Below C n) l₀ l′
-going-one C n i l₀ l l′ d h g s =
-    record {
-      within = λ R c k. s .within R (c i h) (g .within R c k);
-      kept = λ x t lt e. s .kept x t lt (g .kept x t lt e);
-      sized = s .grown .sized ∙ g .sized;
-    }
+  -- closed under more, and what follows
+  pub stepped-map : {known₀ al₀ l₀ known al l : List ℕ} {C D : (ℕ → ℕ → Bool) → Pairs → Type 0} {P Q : (ℕ → ℕ → Bool) → Type 0}
+      → ((g : ℕ → ℕ → Bool) (R : Pairs) → D g R → C g R) → ((g : ℕ → ℕ → Bool) → P g → Q g)
+      → Stepped cells n k b st mv sw tab known₀ al₀ l₀ known al l C P → Stepped cells n k b st mv sw tab known₀ al₀ l₀ known al l D Q
+  stepped-map more f p =
+      record {
+        kept = p .kept;
+        sized = p .sized;
+        right = λ g right ready. let (now, (within, q)) = p .right g right ready in (now, (λ R d. within R (more g R d), f g q));
+      }
 
--- some waits, and then some motions
-pub going-both : (n k : ℕ) (st mv fr al l l₁ l₂ : List ℕ) → Going (Below (WaitClosed st fr) n) l l₁ → Going (Below (MoveClosed mv al) k) l₁ l₂
-    → Going (Closed n k st mv fr al) l l₂
-going-both n k st mv fr al l l₁ l₂ w m =
-    going-then (Closed n k st mv fr al) l l₁ l₂
-    (going-more (Below (WaitClosed st fr) n) (Closed n k st mv fr al) (λ R c. c .0) l l₁ w)
-    (going-more (Below (MoveClosed mv al) k) (Closed n k st mv fr al) (λ R c. c .1) l₁ l₂ m)
+  pub stepped-then : {known₀ al₀ l₀ known₁ al₁ l₁ known al l : List ℕ} {C : (ℕ → ℕ → Bool) → Pairs → Type 0} {P Q S : (ℕ → ℕ → Bool) → Type 0}
+      → ((g : ℕ → ℕ → Bool) → P g → Q g → S g)
+      → Stepped cells n k b st mv sw tab known₀ al₀ l₀ known₁ al₁ l₁ C P → Stepped cells n k b st mv sw tab known₁ al₁ l₁ known al l C Q
+      → Stepped cells n k b st mv sw tab known₀ al₀ l₀ known al l C S
+  stepped-then f p q =
+      record {
+        kept = kept-then b _ _ _ (p .kept) (q .kept);
+        sized = q .sized ∙ p .sized;
+        right = λ g right ready₀.
+            let (ready₁, (within₁, done₁)) = p .right g right ready₀ in
+            let (ready, (within, done)) = q .right g right ready₁ in
+            (ready, (λ R c inside. within R c (within₁ R c inside), f g done₁ done));
+      }

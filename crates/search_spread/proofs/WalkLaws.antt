@@ -1,68 +1,106 @@
 -- What stays closed, and what the motions of one list close.
 -- Assumes nothing.
-use Prim.Native.Nat.{ℕ, suc, _+_, _≤_, _<_}
+use Prim.Native.Nat.{ℕ, suc, _+_, _-_, _*_, _≤_, _<_}
 use native.Mathlib.Omega.{arith}
 use mathlib.Core.Path.{_≡_, refl, sym, ap, _∙_, subst}
-use mathlib.Core.Bool.{false, false≢true}
+use mathlib.Core.Bool.{Bool, true, false, false≢true}
 use mathlib.Core.List.{List}
 use lib.Bits.{bitOr}
 use lib.Dec.{eqb}
-use lib.ListN.{length, getD, set}
+use lib.ListN.{length, getD, set, length-set}
 use lib.Seq.{getD-set-same, getD-set-other}
 use borrow.Author.Tests.{eqb-true, eqb-false}
 use Rattle.meaning.proofs.BasicsLaws.{decide}
-use Rattle.search_sizes.specs.Sizes.{motionRows, rowTicks, stateRows}
+use Rattle.search_sizes.specs.Sizes.{motionRows, blockTicks, blocks, windowTicks, rowTicks, stateRows}
 use Rattle.search_ticks.specs.Rows.{has}
-use Rattle.search_site.specs.Arrays.{fromAt, toAt, spanAt}
-use Rattle.search_step.specs.Sets.{WaitClosed, MoveClosed, Inside, Step, Moved}
 use Rattle.search_ticks.proofs.BitLaws.{or-zero}
+use Rattle.search_site.specs.Arrays.{fromAt, toAt, spanAt, Motions}
+use Rattle.search_step.specs.Sets.{WaitClosed, MoveClosed, Below, Closed, Inside, Within, RowSet, Right, Ready}
 use Rattle.search_lists.specs.Lists.{Chain}
-use Rattle.search_lists.proofs.ListLaws.{chain-case}
-use Rattle.search_spread.specs.Spread.{MovesClosed, Tried, Noted}
+use Rattle.search_lists.proofs.ListLaws.{chain-case, listed-on, end-from}
+use Rattle.search_spread.specs.Spread.{Stepped, MovesClosed, MovesTried, Tried, StillTried, Noted, Progress, Unnoted}
+use Rattle.search_spread.proofs.StepsLaws.{stepped-start, stepped-map, stepped-then}
+use Rattle.search_spread.proofs.ProgressLaws.{progress-none, progress-then, progress-move}
+
+-- row s is the same
+abbrev SameRow : List ℕ → List ℕ → ℕ → Type 0
+SameRow l l′ s = (u : ℕ) → u < rowTicks → has l′ s u ≡ has l s u
 
 -- ---- what stays closed
 
-module _ (n k : ℕ) (st mv fr al : List ℕ) where
-  move-kept : (m : ℕ) (l l′ : List ℕ) → Inside l (has l′) → ((t : ℕ) → t < rowTicks → has l′ (fromAt mv m) t ≡ has l (fromAt mv m) t) → MoveClosed mv al m (has l) → MoveClosed mv al m (has l′)
-  move-kept m l l′ kept same c t h e may = kept (toAt mv m) (t + spanAt mv m) h (c t h (sym (same t (omega arith)) ∙ e) may)
+module _ (n k : ℕ) (st mv sw : List ℕ) (g : ℕ → ℕ → Bool) (b : ℕ) (small : b < blocks) where
+  move-kept : (m : ℕ) (l l′ : List ℕ) → Inside l (has l′) → SameRow l l′ (fromAt mv m) → MoveClosed mv sw g b m (has l) → MoveClosed mv sw g b m (has l′)
+  move-kept m l l′ kept same c u lo hi e may = kept (toAt mv m) (u + spanAt mv m) (omega arith) (c u lo hi (sym (same u (omega arith)) ∙ e) may)
 
-  moves-kept : (s : ℕ) (l l′ : List ℕ) → Inside l (has l′) → ((t : ℕ) → t < rowTicks → has l′ s t ≡ has l s t) → MovesClosed k mv al s (has l) → MovesClosed k mv al s (has l′)
-  moves-kept s l l′ kept same c m h e =
-      move-kept m l l′ kept (λ t lt. ap (λ (x : ℕ). has l′ x t) e ∙ same t lt ∙ sym (ap (λ (x : ℕ). has l x t) e)) (c m h e)
+  -- row s is that of the motion's start
+  move-kept-from : (s m : ℕ) (l l′ : List ℕ) → fromAt mv m ≡ s → Inside l (has l′) → SameRow l l′ s → MoveClosed mv sw g b m (has l) → MoveClosed mv sw g b m (has l′)
+  move-kept-from s m l l′ from kept same = move-kept m l l′ kept (subst (SameRow l l′) (sym from) same)
 
-  waits-kept : (s : ℕ) (l l′ : List ℕ) → ((t : ℕ) → t < rowTicks → has l′ s t ≡ has l s t) → WaitClosed st fr s (has l) → WaitClosed st fr s (has l′)
-  waits-kept s l l′ same c still t h e now soon = same (suc t) h ∙ c still t h (sym (same t (omega arith)) ∙ e) now soon
+  waits-kept : (s : ℕ) (l l′ : List ℕ) → SameRow l l′ s → WaitClosed st g b s (has l) → WaitClosed st g b s (has l′)
+  waits-kept s l l′ same c still u lo hi e now soon = same (suc u) (omega arith) ∙ c still u lo hi (sym (same u (omega arith)) ∙ e) now soon
 
-  -- a row without ticks
-  pub tried-empty : (g l : List ℕ) (s : ℕ) → length g ≡ stateRows → ((t : ℕ) → t < rowTicks → has l s t ≡ false) → Tried n k st mv fr al g (has l)
-      → Tried n k st mv fr al (set g s 0) (has l)
-  tried-empty g l s size none c x h e =
+  -- a row with nothing in the block and the one before it
+  pub tried-empty : (noted l : List ℕ) (s : ℕ) → Motions k mv → ((i : ℕ) → i < windowTicks → has l s (blockTicks * b + i) ≡ false) → Tried n k st mv sw g b noted (has l)
+      → Tried n k st mv sw g b (set noted s 0) (has l)
+  tried-empty noted l s ranges none c x h e =
       decide (eqb x s)
-      (λ u.
-      let same : x ≡ s = eqb-true x s u in (
-        λ lt still t early on. absurd (false≢true (sym (none t (omega arith)) ∙ ap (λ (y : ℕ). has l y t) (sym same) ∙ on)),
-        λ m lt from t early on. absurd (false≢true (sym (none t (omega arith)) ∙ ap (λ (y : ℕ). has l y t) (sym (from ∙ same)) ∙ on)),
+      (λ r.
+      let same : x ≡ s = eqb-true x s r in (
+        λ still u lo hi on. absurd (empty x same u (omega arith) (omega arith) on),
+        λ m lt from u lo hi on. absurd (empty (fromAt mv m) (from ∙ same) u (omega (arith, ranges .span m lt)) (omega (arith, ranges .span m lt)) on),
       ))
-      (λ u. c x h (sym (getD-set-other g s x 0 0 (eqb-false x s u)) ∙ e))
+      (λ r. c x h (sym (getD-set-other noted s x 0 0 (eqb-false x s r)) ∙ e))
+    where
+      empty : (y : ℕ) → y ≡ s → (u : ℕ) → blockTicks * b ≤ u → u < blockTicks * b + windowTicks → has l y u ≡ true → ⊥
+      empty y same u lo hi on =
+          let place : blockTicks * b + (u - blockTicks * b) ≡ u = omega arith in
+          false≢true (sym (none (u - blockTicks * b) (omega arith)) ∙ ap (has l s) place ∙ ap (λ (z : ℕ). has l z u) (sym same) ∙ on)
 
   -- the waits and the motions of a state
-  pub tried-state : (g l l₁ l₂ g₂ : List ℕ) (s : ℕ) → Inside l (has l₁) → Inside l₁ (has l₂)
-      → (s < n → WaitClosed st fr s (has l₁)) → ((x t : ℕ) → (x ≡ s → ⊥) → t < rowTicks → has l₁ x t ≡ has l x t)
-      → Noted l₁ (set g s 0) l₂ g₂ → (getD g₂ s 0 ≡ 0 → MovesClosed k mv al s (has l₂))
-      → Tried n k st mv fr al g (has l) → Tried n k st mv fr al g₂ (has l₂)
-  tried-state g l l₁ l₂ g₂ s kept₁ kept₂ waits others noted moves c x h e =
-      let (was, same) = noted x h e in
+  pub tried-state : (noted l l₁ l₂ noted₂ : List ℕ) (s d : ℕ) → n ≤ stateRows → RowSet b s l l₁ d → Inside l₁ (has l₂)
+      → WaitClosed st g b s (has l₁) → Noted l₁ (set noted s 0) l₂ noted₂ → (getD noted₂ s 0 ≡ 0 → MovesClosed k mv sw g b s (has l₂))
+      → Tried n k st mv sw g b noted (has l) → Tried n k st mv sw g b noted₂ (has l₂)
+  tried-state noted l l₁ l₂ noted₂ s d few waited kept₂ waits notes moves c x h e =
+      let (was, same) = notes x (omega arith) e in
       decide (eqb x s)
-      (λ u.
-      let is : x ≡ s = eqb-true x s u in (
-        λ lt. waits-kept x l₁ l₂ same (subst (λ (y : ℕ). WaitClosed st fr y (has l₁)) (sym is) (waits (subst (λ (y : ℕ). y < n) is lt))),
-        subst (λ (y : ℕ). MovesClosed k mv al y (has l₂)) (sym is) (moves (ap (λ (y : ℕ). getD g₂ y 0) (sym is) ∙ e)),
+      (λ r.
+      let is : x ≡ s = eqb-true x s r in (
+        waits-kept x l₁ l₂ same (subst (λ (y : ℕ). WaitClosed st g b y (has l₁)) (sym is) waits),
+        subst (λ (y : ℕ). MovesClosed k mv sw g b y (has l₂)) (sym is) (moves (ap (λ (y : ℕ). getD noted₂ y 0) (sym is) ∙ e)),
       ))
-      (λ u.
-      let ne : x ≡ s → ⊥ = eqb-false x s u in
-      let before = c x h (sym (getD-set-other g s x 0 0 ne) ∙ was) in
-      let row : (t : ℕ) → t < rowTicks → has l₂ x t ≡ has l x t = λ t lt. same t lt ∙ others x t ne lt in
-      (λ lt. waits-kept x l l₂ row (before .0 lt), moves-kept x l l₂ (λ y t lt i. kept₂ y t lt (kept₁ y t lt i)) row (before .1)))
+      (λ r.
+      let ne : x ≡ s → ⊥ = eqb-false x s r in
+      let before = c x h (sym (getD-set-other noted s x 0 0 ne) ∙ was) in
+      let row : SameRow l l₂ x = λ u lt. same u lt ∙ waited .others x u ne lt in (
+        waits-kept x l l₂ row (before .0),
+        λ m lt from. move-kept-from x m l l₂ from (λ y u lt i. kept₂ y u lt (waited .kept .inside y u lt i)) row (before .1 m lt from),
+      ))
+
+-- ---- the notes of growth
+
+pub noted-start : (l noted : List ℕ) → Noted l noted l noted
+noted-start l noted s h e = (e, λ u lt. refl)
+
+noted-then : (l₀ noted₀ l noted l′ noted′ : List ℕ) → Noted l₀ noted₀ l noted → Noted l noted l′ noted′ → Noted l₀ noted₀ l′ noted′
+noted-then l₀ noted₀ l noted l′ noted′ p q x h e =
+    let (was, same) = q x h e in
+    let (first, row) = p x h was in
+    (first, λ u lt. same u lt ∙ row u lt)
+
+-- the notes after d was new in row `to`
+abbrev pub note : List ℕ → ℕ → ℕ → List ℕ
+note noted to d = set noted to (bitOr (getD noted to 0) d)
+
+noted-one : (b : ℕ) (l l′ noted : List ℕ) (to d : ℕ) → to < length noted → RowSet b to l l′ d → Noted l noted l′ (note noted to d)
+noted-one b l l′ noted to d room moved x h e =
+    decide (eqb x to)
+    (λ r.
+    let same : x ≡ to = eqb-true x to r in
+    let none = or-zero (getD noted to 0) d (sym (getD-set-same noted to _ 0 room) ∙ ap (λ (y : ℕ). getD (note noted to d) y 0) (sym same) ∙ e) in
+    (ap (λ (y : ℕ). getD noted y 0) same ∙ none .0, λ u lt. ap (λ (z : List ℕ). has z x u) (moved .grown .same (none .1))))
+    (λ r.
+    let ne : x ≡ to → ⊥ = eqb-false x to r in
+    (sym (getD-set-other noted to x _ 0 ne) ∙ e, λ u lt. moved .others x u ne lt))
 
 -- ---- the motions of one list
 
@@ -71,79 +109,119 @@ pub data Either (A B : Type 0) : Type 0 where
   done : A → Either A B
   later : B → Either A B
 
-pub noted-start : (l g : List ℕ) → Noted l g l g
-noted-start l g s h e = (e, λ t lt. refl)
+-- the motions of the list of s, of which a is the next, are closed where no growth of s is noted
+abbrev pub Walked : ℕ → List ℕ → List ℕ → List ℕ → ℕ → ℕ → List ℕ → List ℕ → ℕ → (ℕ → ℕ → Bool) → Type 0
+Walked k mv sw ls b s l noted a g =
+    (m : ℕ) → Chain ls k (getD ls (motionRows + s) 0) m → fromAt mv m ≡ s → Either (getD noted s 0 ≡ 0 → MoveClosed mv sw g b m (has l)) (Chain ls k a m)
 
-module _ (k : ℕ) (mv al ls : List ℕ) (s : ℕ) where
-  -- the motions of the list of s, of which a is the next
-  abbrev pub Walked : List ℕ → List ℕ → ℕ → Type 0
-  Walked l g a = (m : ℕ) → Chain ls k (getD ls (motionRows + s) 0) m → fromAt mv m ≡ s → Either (getD g s 0 ≡ 0 → MoveClosed mv al m (has l)) (Chain ls k a m)
+module _ (k : ℕ) (mv sw ls : List ℕ) (b s : ℕ) (g : ℕ → ℕ → Bool) where
+  pub walked-start : (l noted : List ℕ) (a : ℕ) → a ≡ getD ls (motionRows + s) 0 → Walked k mv sw ls b s l noted a g
+  walked-start l noted a e m c from = later (subst (λ (x : ℕ). Chain ls k x m) (sym e) c)
 
-  pub walked-start : (l g : List ℕ) (a : ℕ) → a ≡ getD ls (motionRows + s) 0 → Walked l g a
-  walked-start l g a e m c from = later (subst (λ (x : ℕ). Chain ls k x m) (sym e) c)
+  -- what is on no list is none of the motions of s
+  walked-all : (l noted : List ℕ) → ((m : ℕ) → Chain ls k (getD ls (motionRows + s) 0) m → fromAt mv m ≡ s → getD noted s 0 ≡ 0 → MoveClosed mv sw g b m (has l))
+      → MovesTried k mv sw ls b s l noted g
+  walked-all l noted each all e m lt from = each m (listed-on 0 k mv ls s all m lt (end-from mv m ∙ from)) from e
 
-  module _ (l l′ g : List ℕ) (a d to : ℕ) (size : length g ≡ stateRows) (is-to : to ≡ toAt mv a) (small : to < stateRows)
-      (step : Step (MoveClosed mv al a) l l′ d) (moved : Moved mv al a l l′) where
-    abbrev g′ : List ℕ
-    g′ = set g to (bitOr (getD g to 0) d)
+  -- the list is at its end
+  pub walked-end : (l noted : List ℕ) (a : ℕ) → k ≤ a → Walked k mv sw ls b s l noted a g → MovesTried k mv sw ls b s l noted g
+  walked-end l noted a past w = walked-all l noted (λ m c from. go m (w m c from))
+    where
+      go : (m : ℕ) → Either (getD noted s 0 ≡ 0 → MoveClosed mv sw g b m (has l)) (Chain ls k a m) → getD noted s 0 ≡ 0 → MoveClosed mv sw g b m (has l)
+      go m (done x) = x
+      go m (later x) = chain-case x (λ same lt. absurd (omega arith)) (λ lt up rest. absurd (omega arith))
 
-    noted-one : Noted l g l′ g′
-    noted-one x h e =
-        decide (eqb x to)
-        (λ u.
-        let same : x ≡ to = eqb-true x to u in
-        let z = or-zero (getD g to 0) d (sym (getD-set-same g to _ 0 (omega arith)) ∙ ap (λ (y : ℕ). getD g′ y 0) (sym same) ∙ e) in
-        (ap (λ (y : ℕ). getD g y 0) same ∙ z .0, λ t lt. ap (λ (r : List ℕ). has r x t) (step .grown .same (z .1))))
-        (λ u.
-        let ne : x ≡ to → ⊥ = eqb-false x to u in
-        (sym (getD-set-other g to x _ 0 ne) ∙ e, λ t lt. moved .others x t (λ same. ne (same ∙ sym is-to)) lt))
+  module _ (l l′ noted : List ℕ) (a d to : ℕ) (small : b < blocks) (known : s < stateRows) (room : to < length noted)
+      (moved : RowSet b to l l′ d) (closed : MoveClosed mv sw g b a (has l′)) where
+    still : (m : ℕ) → fromAt mv m ≡ s → (getD noted s 0 ≡ 0 → MoveClosed mv sw g b m (has l)) → getD (note noted to d) s 0 ≡ 0 → MoveClosed mv sw g b m (has l′)
+    still m from c e =
+        let (was, same) = noted-one b l l′ noted to d room moved s known e in
+        move-kept-from 0 k mv mv sw g b small s m l l′ from (moved .kept .inside) same (c was)
 
-    pub noted-more : (l₀ g₀ : List ℕ) → Noted l₀ g₀ l g → Noted l₀ g₀ l′ g′
-    noted-more l₀ g₀ before x h e =
-        let (was, same) = noted-one x h e in
-        let (first, row) = before x h was in
-        (first, λ t lt. same t lt ∙ row t lt)
-
-    -- the motion a itself
-    closed-here : s < stateRows → fromAt mv a ≡ s → getD g′ s 0 ≡ 0 → MoveClosed mv al a (has l′)
-    closed-here h from e =
-        decide (eqb s to)
-        (λ u.
-        let same : s ≡ to = eqb-true s to u in
-        let z = or-zero (getD g to 0) d (sym (getD-set-same g to _ 0 (omega arith)) ∙ ap (λ (y : ℕ). getD g′ y 0) (sym same) ∙ e) in
-        step .closed (z .1))
-        (λ u. moved .closed (λ same. eqb-false s to u (sym from ∙ same ∙ sym is-to)))
-
-    closed-still : (m : ℕ) → s < stateRows → fromAt mv m ≡ s → (getD g s 0 ≡ 0 → MoveClosed mv al m (has l)) → getD g′ s 0 ≡ 0 → MoveClosed mv al m (has l′)
-    closed-still m h from c e =
-        let (was, same) = noted-one s h e in
-        move-kept 0 k mv mv al al m l l′ (step .kept) (λ t lt. ap (λ (x : ℕ). has l′ x t) from ∙ same t lt ∙ sym (ap (λ (x : ℕ). has l x t) from)) (c was)
-
-    pub walked-more : (after : ℕ) → s < stateRows → after ≡ getD ls a 0 → Walked l g a → Walked l′ g′ after
-    walked-more after h e w m c from = go (w m c from)
+    pub walked-more : (after : ℕ) → after ≡ getD ls a 0 → Walked k mv sw ls b s l noted a g → Walked k mv sw ls b s l′ (note noted to d) after g
+    walked-more after e w m c from = go (w m c from)
       where
-        go : Either (getD g s 0 ≡ 0 → MoveClosed mv al m (has l)) (Chain ls k a m) → Either (getD g′ s 0 ≡ 0 → MoveClosed mv al m (has l′)) (Chain ls k after m)
-        go (done x) = done (closed-still m h from x)
+        go : Either (getD noted s 0 ≡ 0 → MoveClosed mv sw g b m (has l)) (Chain ls k a m) → Either (getD (note noted to d) s 0 ≡ 0 → MoveClosed mv sw g b m (has l′)) (Chain ls k after m)
+        go (done x) = done (still m from x)
         go (later x) =
             chain-case x
-            (λ same lt. done (subst (λ (y : ℕ). getD g′ s 0 ≡ 0 → MoveClosed mv al y (has l′)) same (closed-here h (ap (fromAt mv) same ∙ from))))
+            (λ same lt. done (λ none. subst (λ (y : ℕ). MoveClosed mv sw g b y (has l′)) same closed))
             (λ lt up rest. later (subst (λ (y : ℕ). Chain ls k y m) (sym e) rest))
 
     -- nothing stands behind a
-    pub walked-last : s < stateRows → getD ls a 0 ≤ a → Walked l g a → (m : ℕ) → Chain ls k (getD ls (motionRows + s) 0) m → fromAt mv m ≡ s → getD g′ s 0 ≡ 0 → MoveClosed mv al m (has l′)
-    walked-last h low w m c from = go (w m c from)
+    pub walked-last : getD ls a 0 ≤ a → Walked k mv sw ls b s l noted a g → MovesTried k mv sw ls b s l′ (note noted to d) g
+    walked-last low w = walked-all l′ (note noted to d) (λ m c from. go m from (w m c from))
       where
-        go : Either (getD g s 0 ≡ 0 → MoveClosed mv al m (has l)) (Chain ls k a m) → getD g′ s 0 ≡ 0 → MoveClosed mv al m (has l′)
-        go (done x) = closed-still m h from x
-        go (later x) =
+        go : (m : ℕ) → fromAt mv m ≡ s → Either (getD noted s 0 ≡ 0 → MoveClosed mv sw g b m (has l)) (Chain ls k a m) → getD (note noted to d) s 0 ≡ 0 → MoveClosed mv sw g b m (has l′)
+        go m from (done x) = still m from x
+        go m from (later x) =
             chain-case x
-            (λ same lt. subst (λ (y : ℕ). getD g′ s 0 ≡ 0 → MoveClosed mv al y (has l′)) same (closed-here h (ap (fromAt mv) same ∙ from)))
+            (λ same lt none. subst (λ (y : ℕ). MoveClosed mv sw g b y (has l′)) same closed)
             (λ lt up rest. absurd (omega arith))
 
-  -- the list is at its end
-  pub walked-end : (l g : List ℕ) (a : ℕ) → k ≤ a → Walked l g a → (m : ℕ) → Chain ls k (getD ls (motionRows + s) 0) m → fromAt mv m ≡ s → getD g s 0 ≡ 0 → MoveClosed mv al m (has l)
-  walked-end l g a past w m c from = go (w m c from)
+-- ---- what the walk of a list keeps
+
+-- the motions tried so far, from the notes noted₀ to noted
+pub record Walk (cells n k b : ℕ) (st mv sw tab known₀ al₀ l₀ noted₀ known al l noted : List ℕ) (Q : (ℕ → ℕ → Bool) → Type 0) : Type 0 where
+  pub steps : Stepped cells n k b st mv sw tab known₀ al₀ l₀ known al l (λ g. Below (MoveClosed mv sw g b) k) Q
+  pub long : length noted ≡ stateRows
+  pub noted-growth : Noted l₀ noted₀ l noted
+  pub progress : Progress l₀ l (Unnoted noted₀ noted)
+
+module _ {cells n k b : ℕ} {st mv sw tab : List ℕ} where
+  pub walk-start : (known al l noted : List ℕ) {Q : (ℕ → ℕ → Bool) → Type 0} → length noted ≡ stateRows → ((g : ℕ → ℕ → Bool) → Q g)
+      → Walk cells n k b st mv sw tab known al l noted known al l noted Q
+  walk-start known al l noted long q =
+      record { steps = stepped-start known al l q; long = long; noted-growth = noted-start l noted; progress = progress-none l (λ x. refl) }
+
+  pub walk-end : {known₀ al₀ l₀ noted₀ known al l noted : List ℕ} {P Q : (ℕ → ℕ → Bool) → Type 0} → ((g : ℕ → ℕ → Bool) → P g → Q g)
+      → Walk cells n k b st mv sw tab known₀ al₀ l₀ noted₀ known al l noted P → Walk cells n k b st mv sw tab known₀ al₀ l₀ noted₀ known al l noted Q
+  walk-end f w = record { steps = stepped-map (λ g R c. c) f (w .steps); long = w .long; noted-growth = w .noted-growth; progress = w .progress }
+
+  -- one more motion, a
+  pub walk-more : {known₀ al₀ l₀ noted₀ known al l noted : List ℕ} {P Q : (ℕ → ℕ → Bool) → Type 0} (known′ al′ l′ : List ℕ) (a to d : ℕ)
+      → a < k → to ≡ toAt mv a → to < stateRows → RowSet b (toAt mv a) l l′ d → length al′ ≡ length al
+      → ((g : ℕ → ℕ → Bool) → Right g cells n k b st mv sw tab → Ready g k b mv sw known al
+      → Ready g k b mv sw known′ al′ × (Within (MoveClosed mv sw g b a) l l′ × MoveClosed mv sw g b a (has l′)))
+      → ((g : ℕ → ℕ → Bool) → RowSet b to l l′ d → to < length noted → MoveClosed mv sw g b a (has l′) → P g → Q g)
+      → Walk cells n k b st mv sw tab known₀ al₀ l₀ noted₀ known al l noted P
+      → Walk cells n k b st mv sw tab known₀ al₀ l₀ noted₀ known′ al′ l′ (note noted to d) Q
+  walk-more {l₀ = l₀} {noted₀ = noted₀} {l = l} {noted = noted} known′ al′ l′ a to d lt is-to small moved sized right f w =
+      let size = w .long in
+      let room : to < length noted = omega arith in
+      let row : RowSet b to l l′ d = rw is-to moved in
+      record {
+        steps = stepped-then (λ g p c. f g row room c p) (w .steps)
+            (stepped-map (λ g R c. c a lt) (λ g c. c) (record { kept = moved .kept; sized = sized; right = right }));
+        long = length-set noted to _ ∙ size;
+        noted-growth = noted-then l₀ noted₀ l noted l′ (note noted to d) (w .noted-growth) (noted-one b l l′ noted to d room row);
+        progress = progress-then (λ p q x. q x ∙ p x) (w .progress) (progress-move l l′ noted d to room (moved .grown));
+      }
+
+-- ---- one state
+
+module _ {cells n k b : ℕ} {st mv sw tab : List ℕ} where
+  -- nothing is set, and what was tried is tried
+  pub state-quiet : (known al l noted ls : List ℕ)
+      → Stepped cells n k b st mv sw tab known al l known al l (λ g. Closed n k st mv sw g b) (StillTried n k st mv sw ls b noted l noted l)
+  state-quiet known al l noted ls = stepped-start known al l (λ g all tried. tried)
+
+  -- there is nothing to set
+  pub state-empty : (known al l noted ls : List ℕ) (s : ℕ) → b < blocks → Motions k mv → ((i : ℕ) → i < windowTicks → has l s (blockTicks * b + i) ≡ false)
+      → Stepped cells n k b st mv sw tab known al l known al l (λ g. Closed n k st mv sw g b) (StillTried n k st mv sw ls b noted l (set noted s 0) l)
+  state-empty known al l noted ls s small ranges none = stepped-start known al l (λ g all. tried-empty n k st mv sw g b small noted l s ranges none)
+
+  -- the waits, and then the motions
+  pub state-steps : {known al l known₂ al₂ l₂ : List ℕ} (l₁ noted noted₂ ls : List ℕ) (s d : ℕ) → b < blocks → n ≤ stateRows → s < n → RowSet b s l l₁ d
+      → ((g : ℕ → ℕ → Bool) (k : ℕ) (mv sw : List ℕ) → Right g cells n k b st mv sw tab → Within (WaitClosed st g b s) l l₁ × WaitClosed st g b s (has l₁))
+      → Stepped cells n k b st mv sw tab known al l₁ known₂ al₂ l₂ (λ g. Below (MoveClosed mv sw g b) k) (MovesTried k mv sw ls b s l₂ noted₂)
+      → Noted l₁ (set noted s 0) l₂ noted₂
+      → Stepped cells n k b st mv sw tab known al l known₂ al₂ l₂ (λ g. Closed n k st mv sw g b) (StillTried n k st mv sw ls b noted l noted₂ l₂)
+  state-steps {known = known} {al = al} {l = l} {l₂ = l₂} l₁ noted noted₂ ls s d small few lt waited waits moves notes =
+      stepped-then
+      (λ g wait move all. tried-state n k st mv sw g b small noted l l₁ l₂ noted₂ s d few waited (moves .kept .inside) wait notes (move all))
+      (stepped-map (λ g R c. c .0 s lt) (λ g c. c) waits-done)
+      (stepped-map (λ g R c. c .1) (λ g c. c) moves)
     where
-      go : Either (getD g s 0 ≡ 0 → MoveClosed mv al m (has l)) (Chain ls k a m) → getD g s 0 ≡ 0 → MoveClosed mv al m (has l)
-      go (done x) = x
-      go (later x) = chain-case x (λ same lt. absurd (omega arith)) (λ lt up rest. absurd (omega arith))
+      waits-done : Stepped cells n k b st mv sw tab known al l known al l₁ (λ g. WaitClosed st g b s) (λ g. WaitClosed st g b s (has l₁))
+      waits-done = record { kept = waited .kept; sized = refl; right = λ g right ready. (ready, waits g k mv sw right) }

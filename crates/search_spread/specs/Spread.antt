@@ -1,25 +1,42 @@
--- What is closed where no growth of a row is noted.
+-- What steps of the search do to the reached pairs, and what is closed where no growth of a row is noted.
 -- Assumes nothing.
 use Prim.Native.Nat.{ℕ, _<_}
 use mathlib.Core.Path.{_≡_}
+use mathlib.Core.Bool.{Bool}
 use mathlib.Core.List.{List}
-use lib.ListN.{getD}
+use lib.ListN.{length, getD}
 use Rattle.search_sizes.specs.Sizes.{rowTicks, stateRows}
 use Rattle.search_ticks.specs.Rows.{has, total}
 use Rattle.search_site.specs.Arrays.{fromAt}
-use Rattle.search_step.specs.Sets.{Pairs, WaitClosed, MoveClosed}
+use Rattle.search_step.specs.Sets.{Pairs, WaitClosed, MoveClosed, Within, Kept, Right, Ready}
+use Rattle.search_lists.specs.Lists.{Listed}
+
+-- Some steps from l₀ to l, which work out rows of motions where they need them: where the tables are right for g, the rows stay right, the
+-- steps stay inside every set that is closed as C says and that they began in, and Q holds.
+pub record Stepped (cells n k b : ℕ) (st mv sw tab known₀ al₀ l₀ known al l : List ℕ) (C : (ℕ → ℕ → Bool) → Pairs → Type 0) (Q : (ℕ → ℕ → Bool) → Type 0) : Type 0 where
+  pub kept : Kept b l₀ l
+  pub sized : length al ≡ length al₀
+  pub right : (g : ℕ → ℕ → Bool) → Right g cells n k b st mv sw tab → Ready g k b mv sw known₀ al₀ → Ready g k b mv sw known al × (Within (C g) l₀ l × Q g)
 
 -- the motions from s are closed
-abbrev pub MovesClosed : ℕ → List ℕ → List ℕ → ℕ → Pairs → Type 0
-MovesClosed k mv al s R = (m : ℕ) → m < k → fromAt mv m ≡ s → MoveClosed mv al m R
+abbrev pub MovesClosed : ℕ → List ℕ → List ℕ → (ℕ → ℕ → Bool) → ℕ → ℕ → Pairs → Type 0
+MovesClosed k mv sw g b s R = (m : ℕ) → m < k → fromAt mv m ≡ s → MoveClosed mv sw g b m R
+
+-- they are, where no growth of s is noted, if each motion is on the list of its state
+abbrev pub MovesTried : ℕ → List ℕ → List ℕ → List ℕ → ℕ → ℕ → List ℕ → List ℕ → (ℕ → ℕ → Bool) → Type 0
+MovesTried k mv sw ls b s l noted g = Listed 0 k mv ls → getD noted s 0 ≡ 0 → MovesClosed k mv sw g b s (has l)
 
 -- where no growth is noted, waits and motions are closed
-abbrev pub Tried : ℕ → ℕ → List ℕ → List ℕ → List ℕ → List ℕ → List ℕ → Pairs → Type 0
-Tried n k st mv fr al g R = (s : ℕ) → s < stateRows → getD g s 0 ≡ 0 → (s < n → WaitClosed st fr s R) × MovesClosed k mv al s R
+abbrev pub Tried : ℕ → ℕ → List ℕ → List ℕ → List ℕ → (ℕ → ℕ → Bool) → ℕ → List ℕ → Pairs → Type 0
+Tried n k st mv sw g b noted R = (s : ℕ) → s < n → getD noted s 0 ≡ 0 → WaitClosed st g b s R × MovesClosed k mv sw g b s R
+
+-- that is kept from noted₀ and l₀ to noted and l, if each motion is on the list of its state
+abbrev pub StillTried : ℕ → ℕ → List ℕ → List ℕ → List ℕ → List ℕ → ℕ → List ℕ → List ℕ → List ℕ → List ℕ → (ℕ → ℕ → Bool) → Type 0
+StillTried n k st mv sw ls b noted₀ l₀ noted l g = Listed 0 k mv ls → Tried n k st mv sw g b noted₀ (has l₀) → Tried n k st mv sw g b noted (has l)
 
 -- where no growth is noted in g, none was noted in g₀, and the row is as it was
 abbrev pub Noted : List ℕ → List ℕ → List ℕ → List ℕ → Type 0
-Noted l₀ g₀ l g = (s : ℕ) → s < stateRows → getD g s 0 ≡ 0 → (getD g₀ s 0 ≡ 0) × ((t : ℕ) → t < rowTicks → has l s t ≡ has l₀ s t)
+Noted l₀ g₀ l g = (s : ℕ) → s < stateRows → getD g s 0 ≡ 0 → (getD g₀ s 0 ≡ 0) × ((u : ℕ) → u < rowTicks → has l s u ≡ has l₀ s u)
 
 -- some steps from l₀ to l: the sum of the words has grown, or nothing has changed and Q holds
 pub data Progress (l₀ l : List ℕ) (Q : Type 0) : Type 0 where

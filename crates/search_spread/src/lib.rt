@@ -1,38 +1,59 @@
-// The waits and the motions of one state: what they set, and which states' sets grow.
+// The waits and the motions of one state in a block of ticks: what they set, and which states' sets grow.
 use search_sizes::LISTED;
 use search_sizes::MOTIONS;
 use search_sizes::STATES;
 ghost use mathlib.Core.Path.{_≡_};
-ghost use Prim.Native.Nat.{ℕ, _*_, _≤_, _<_};
-ghost use lib.ListN.{length, getD};
-ghost use Rattle.search_sizes.specs.Sizes.{rowWords, rowTicks, stateRows, freeWords, reachedWords};
-ghost use Rattle.search_ticks.specs.Rows.{has};
-ghost use Rattle.search_site.specs.Arrays.{States, Motions};
-ghost use Rattle.search_step.specs.Sets.{WaitClosed, MoveClosed, Below, Closed, Going};
-ghost use Rattle.search_lists.specs.Lists.{Listed};
-ghost use Rattle.search_spread.specs.Spread.{MovesClosed, Tried, Noted, Progress, Unnoted, UnnotedBut};
+ghost use Prim.Native.Nat.{_*_, _≤_, _<_};
+ghost use lib.ListN.{length};
+ghost use Rattle.search_sizes.specs.Sizes.{blockWords, blocks, rowWords, stateRows};
+ghost use Rattle.search_site.specs.Arrays.{States, Motions, CellsBelow, Leads};
+ghost use Rattle.search_site.specs.Decoded.{Sweeps};
+ghost use Rattle.search_step.specs.Sets.{MoveClosed, Below, Closed, Room};
+ghost use Rattle.search_spread.specs.Spread.{Stepped, MovesTried, StillTried, Noted, Progress, Unnoted, UnnotedBut};
 
 // Tries the motions of the list of state s, and notes the states whose sets grow.
 fn move_from(
+    states: &[u16],
     motions: &[u16],
-    allowed: &[u64],
+    sweeps: &[u8],
+    tab: &[u64],
+    allowed: &mut [u64],
+    known: &mut [u8; MOTIONS],
     reached: &mut [u64],
     lists: &[u16; LISTED],
     grown: &mut [u64; STATES],
+    cells: usize,
+    n: usize,
     k: usize,
     s: usize,
+    block: usize,
 )
-    requires { ⌜ Motions k (now motions) × ((s < stateRows) × (length (now grown) ≡ stateRows)) ⌝ }
-    requires { ⌜ (k * rowWords ≤ length (now allowed)) × (reachedWords ≤ length (now reached)) ⌝ }
-    ensures { λ _. ⌜ Going (Below (MoveClosed (now (motions .entry)) (now (allowed .entry))) k) (now (reached .entry)) (now (reached .exit)) ⌝ }
+    requires { ⌜ States n (now states) × (CellsBelow cells n (now states) × (Motions k (now motions) × (Leads n k (now motions) × (s < n)))) ⌝ }
+    requires { ⌜ Sweeps cells k (now motions) (now sweeps) × (Room cells k (now motions) (now tab) × (block < blocks)) ⌝ }
+    requires { ⌜ (k * blockWords ≤ length (now allowed)) × ((n * rowWords ≤ length (now reached)) × (length (now grown) ≡ stateRows)) ⌝ }
+    ensures { λ _. ⌜ Stepped cells n k block (now (states .entry)) (now (motions .entry)) (now (sweeps .entry)) (now (tab .entry))
+        (now (known .entry)) (now (allowed .entry)) (now (reached .entry)) (now (known .exit)) (now (allowed .exit)) (now (reached .exit))
+        (λ g. Below (MoveClosed (now (motions .entry)) (now (sweeps .entry)) g block) k)
+        (MovesTried k (now (motions .entry)) (now (sweeps .entry)) (now (lists .entry)) block s (now (reached .exit)) (now (grown .exit))) ⌝ }
     ensures { λ _. ⌜ (length (now (grown .exit)) ≡ stateRows) × Noted (now (reached .entry)) (now (grown .entry)) (now (reached .exit)) (now (grown .exit)) ⌝ }
-    ensures { λ _. ⌜ (Listed k (now (motions .entry)) (now (lists .entry)) → getD (now (grown .exit)) s 0 ≡ 0
-        → MovesClosed k (now (motions .entry)) (now (allowed .entry)) s (has (now (reached .exit)))) ⌝ }
     ensures { λ _. ⌜ Progress (now (reached .entry)) (now (reached .exit)) (Unnoted (now (grown .entry)) (now (grown .exit))) ⌝ }
 {
     let mut m = search_lists::listed_at(lists, MOTIONS + s);
     while m < k {
-        let new = search_step::move_one(motions, allowed, reached, k, m);
+        let new = search_step::move_one(
+            states,
+            motions,
+            sweeps,
+            tab,
+            allowed,
+            known,
+            reached,
+            cells,
+            n,
+            k,
+            m,
+            block,
+        );
         let to = search_site::to_of(motions, k, m);
         grown[to] = grown[to] | new;
         let after = search_lists::listed_at(lists, m);
@@ -43,50 +64,56 @@ fn move_from(
     }
 }
 
-// The waits in s, if it is one of the n states.
-fn wait_in(states: &[u16], frees: &[u64], reached: &mut [u64], n: usize, s: usize)
-    requires { ⌜ States n (now states) × ((freeWords ≤ length (now frees)) × (reachedWords ≤ length (now reached))) ⌝ }
-    ensures { λ _. ⌜ Going (Below (WaitClosed (now (states .entry)) (now (frees .entry))) n) (now (reached .entry)) (now (reached .exit)) ⌝ }
-    ensures { λ _. ⌜ (s < n → WaitClosed (now (states .entry)) (now (frees .entry)) s (has (now (reached .exit)))) ⌝ }
-    ensures { λ _. ⌜ ((x t : ℕ) → (x ≡ s → ⊥) → t < rowTicks → has (now (reached .exit)) x t ≡ has (now (reached .entry)) x t) ⌝ }
-    ensures { λ _. ⌜ Progress (now (reached .entry)) (now (reached .exit)) (Unit {0}) ⌝ }
-{
-    if n <= s {
-        return;
-    }
-    search_step::wait_one(states, frees, reached, n, s);
-}
-
 // Tries the waits and the motions of state s, if its set has grown since the last time.
 pub fn spread_one(
     states: &[u16],
     motions: &[u16],
-    frees: &[u64],
-    allowed: &[u64],
+    sweeps: &[u8],
+    tab: &[u64],
+    allowed: &mut [u64],
+    known: &mut [u8; MOTIONS],
     reached: &mut [u64],
     lists: &[u16; LISTED],
     grown: &mut [u64; STATES],
+    cells: usize,
     n: usize,
     k: usize,
     s: usize,
+    block: usize,
 )
-    requires { ⌜ States n (now states) × (Motions k (now motions) × ((s < stateRows) × (length (now grown) ≡ stateRows))) ⌝ }
-    requires { ⌜ (freeWords ≤ length (now frees)) × ((k * rowWords ≤ length (now allowed)) × (reachedWords ≤ length (now reached))) ⌝ }
-    ensures { λ _. ⌜ Going (Closed n k (now (states .entry)) (now (motions .entry)) (now (frees .entry)) (now (allowed .entry)))
-        (now (reached .entry)) (now (reached .exit)) ⌝ }
+    requires { ⌜ States n (now states) × (CellsBelow cells n (now states) × (Motions k (now motions) × (Leads n k (now motions) × (s < n)))) ⌝ }
+    requires { ⌜ Sweeps cells k (now motions) (now sweeps) × (Room cells k (now motions) (now tab) × (block < blocks)) ⌝ }
+    requires { ⌜ (k * blockWords ≤ length (now allowed)) × ((n * rowWords ≤ length (now reached)) × (length (now grown) ≡ stateRows)) ⌝ }
+    ensures { λ _. ⌜ Stepped cells n k block (now (states .entry)) (now (motions .entry)) (now (sweeps .entry)) (now (tab .entry))
+        (now (known .entry)) (now (allowed .entry)) (now (reached .entry)) (now (known .exit)) (now (allowed .exit)) (now (reached .exit))
+        (λ g. Closed n k (now (states .entry)) (now (motions .entry)) (now (sweeps .entry)) g block)
+        (StillTried n k (now (states .entry)) (now (motions .entry)) (now (sweeps .entry)) (now (lists .entry)) block
+        (now (grown .entry)) (now (reached .entry)) (now (grown .exit)) (now (reached .exit))) ⌝ }
     ensures { λ _. ⌜ length (now (grown .exit)) ≡ stateRows ⌝ }
-    ensures { λ _. ⌜ (Listed k (now (motions .entry)) (now (lists .entry))
-        → Tried n k (now (states .entry)) (now (motions .entry)) (now (frees .entry)) (now (allowed .entry)) (now (grown .entry)) (has (now (reached .entry)))
-        → Tried n k (now (states .entry)) (now (motions .entry)) (now (frees .entry)) (now (allowed .entry)) (now (grown .exit)) (has (now (reached .exit)))) ⌝ }
     ensures { λ _. ⌜ Progress (now (reached .entry)) (now (reached .exit)) (UnnotedBut (now (grown .entry)) (now (grown .exit)) s) ⌝ }
 {
     if grown[s] == 0 {
         return;
     }
     grown[s] = 0;
-    if search_ticks::row_union(reached, s) == 0 {
+    if search_ticks::window_union(reached, s, block) == 0 {
         return;
     }
-    wait_in(states, frees, reached, n, s);
-    move_from(motions, allowed, reached, lists, grown, k, s);
+    search_step::wait_one(states, tab, reached, cells, n, s, block);
+    move_from(
+        states,
+        motions,
+        sweeps,
+        tab,
+        allowed,
+        known,
+        reached,
+        lists,
+        grown,
+        cells,
+        n,
+        k,
+        s,
+        block,
+    );
 }

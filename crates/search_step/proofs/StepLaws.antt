@@ -1,23 +1,25 @@
--- What a wait and a motion set, and the least closed set with the start.
+-- What a wait and a motion set in a block.
 -- Assumes nothing.
-use Prim.Native.Nat.{ℕ, zero, suc, _+_, _-_, _≤_, _<_}
+use Prim.Native.Nat.{ℕ, zero, suc, _+_, _-_, _*_, _≤_, _<_}
 use native.Mathlib.Omega.{arith}
 use mathlib.Core.Path.{_≡_, refl, sym, ap, ap₂, _∙_}
 use mathlib.Core.Bool.{Bool, true, false, _&&_, _||_, false≢true}
 use mathlib.Core.List.{List}
 use lib.Dec.{ltb, eqb}
-use lib.ListN.{replicate}
-use borrow.Author.Tests.{ltb-true, ltb-false, eqb-true, eqb-false, eq-eqb}
+use lib.ListN.{length, getD, set}
+use lib.Seq.{getD-set-other}
+use borrow.Author.Tests.{ltb-true, ltb-false, eqb-true, eqb-false}
 use Rattle.meaning.proofs.BasicsLaws.{decide, and-left, and-right}
-use Rattle.search_sizes.specs.Sizes.{rowTicks}
-use Rattle.search_ticks.specs.Rows.{at, has, Grown, Changed, Met, pushed, waited, filled, seeded}
-use Rattle.search_ticks.proofs.RowLaws.{empty-row, grown-start}
+use Rattle.search_sizes.specs.Sizes.{blockTicks, blocks, windowTicks, rowTicks, blockStart, spanLimit}
+use Rattle.search_ticks.specs.Rows.{at, has, Grown, Changed, pushed, waited, filled}
+use Rattle.search_ticks.proofs.RowLaws.{grown-start}
+use Rattle.search_runs.specs.Runs.{ended, runLength}
 use Rattle.search_site.specs.Arrays.{cellAt, speedAt, fromAt, toAt, spanAt}
-use Rattle.search_step.specs.Sets.{Pairs, WaitClosed, MoveClosed, Inside, Step, Settled, Explored, Waited, Moved}
+use Rattle.search_step.specs.Sets.{Pairs, WaitClosed, endsAt, MoveClosed, Inside, Within, Kept, RowSet, Right, RowReady, Ready}
 
 -- ---- tests
 
-either : {X : Type 0} (a b : Bool) → (a || b) ≡ true → (a ≡ true → X) → (b ≡ true → X) → X
+pub either : {X : Type 0} (a b : Bool) → (a || b) ≡ true → (a ≡ true → X) → (b ≡ true → X) → X
 either true b e f g = f refl
 either false b e f g = g e
 
@@ -29,186 +31,256 @@ or-right : (a b : Bool) → b ≡ true → (a || b) ≡ true
 or-right true b e = refl
 or-right false b e = e
 
+and-true : (a : Bool) → (a && true) ≡ a
+and-true true = refl
+and-true false = refl
+
+-- ---- nothing is set
+
+pub kept-start : (b : ℕ) (l : List ℕ) → Kept b l l
+kept-start b l = record { inside = λ s u h e. e; early = λ s u h. refl; sized = refl }
+
+pub row-set-none : (b s : ℕ) (l : List ℕ) → RowSet b s l l 0
+row-set-none b s l = record { kept = kept-start b l; others = λ x u ne h. refl; grown = grown-start l }
+
+-- ---- a block of a row is set
+
+module _ (l l′ : List ℕ) (s b : ℕ) (test : ℕ → Bool) (small : b < blocks) (changed : Changed l l′ s b test) where
+  -- a position is as it was, or in the block
+  by-place : {X : Type 0} (x u : ℕ) → u < rowTicks → (has l′ x u ≡ has l x u → X) → ((i : ℕ) → i < blockTicks → x ≡ s → u ≡ blockStart b + i → X) → X
+  by-place x u h old here =
+      decide (eqb x s)
+      (λ r.
+      let same : x ≡ s = eqb-true x s r in
+      let moved : has l′ s u ≡ has l s u → has l′ x u ≡ has l x u = λ e. ap (λ (y : ℕ). has l′ y u) same ∙ e ∙ sym (ap (λ (y : ℕ). has l y u) same) in
+      decide (ltb u (blockStart b))
+      (λ e. old (moved (changed .early u (ltb-true u (blockStart b) e))))
+      (λ e.
+      let ge : blockStart b ≤ u = ltb-false u (blockStart b) e in
+      decide (ltb u (blockStart b + blockTicks))
+      (λ f. let lt : u < blockStart b + blockTicks = ltb-true u (blockStart b + blockTicks) f in here (u - blockStart b) (omega arith) same (omega arith))
+      (λ f. old (moved (changed .late u (ltb-false u (blockStart b + blockTicks) f) h)))))
+      (λ r. old (changed .others x u (eqb-false x s r) h))
+
+  early-same : (x u : ℕ) → u < blockStart b → has l′ x u ≡ has l x u
+  early-same x u h = by-place x u (omega arith) (λ e. e) (λ i lt same e. absurd (omega arith))
+
+  block-within : (R : Pairs) → ((i : ℕ) → i < blockTicks → test i ≡ true → R s (blockStart b + i) ≡ true) → Inside l R → Inside l′ R
+  block-within R new old x u h e =
+      by-place x u h
+      (λ same. old x u h (sym same ∙ e))
+      (λ i lt row place. rw (row, place) (new i lt (sym (changed .here i lt) ∙ (rw (row, place) at e))))
+
+  block-kept : ((i : ℕ) → i < blockTicks → has l s (blockStart b + i) ≡ true → test i ≡ true) → Inside l (has l′)
+  block-kept keeps x u h e =
+      by-place x u h
+      (λ same. same ∙ e)
+      (λ i lt row place. rw (row, place) (changed .here i lt ∙ keeps i lt (rw (row, place) at e)))
+
+  block-set : (d : ℕ) → ((i : ℕ) → i < blockTicks → has l s (blockStart b + i) ≡ true → test i ≡ true) → Grown l l′ d → RowSet b s l l′ d
+  block-set d keeps grown =
+      record { kept = record { inside = block-kept keeps; early = early-same; sized = changed .sized }; others = changed .others; grown = grown }
+
+-- ---- the free positions of a block
+
+-- a run of one position
+run-one : (g : ℕ → Bool) (u : ℕ) → ended g (runLength 0) u ≡ g u
+unfolding ended runLength
+run-one g u = let same : u - 0 ≡ u = omega arith in and-true (g (u - 0)) ∙ ap g same
+
+-- the first rows have the free positions of each cell
+pub free-row : {g : ℕ → ℕ → Bool} {cells n k b : ℕ} {st mv sw tab : List ℕ} → Right g cells n k b st mv sw tab
+    → (c j : ℕ) → c < cells → j < windowTicks → at tab (c * windowTicks + j) ≡ g c (blockTicks * b + j)
+free-row {g = g} {cells = cells} {b = b} {tab = tab} r c j h lt =
+    let row : c ≡ 0 * cells + c = omega arith in
+    ap (λ (x : ℕ). at tab (x * windowTicks + j)) row ∙ r .right 0 c j (r .some) h lt ∙ run-one (g c) (blockTicks * b + j)
+
 -- ---- a motion
 
-module _ (mv al l l′ x : List ℕ) (m d from to span : ℕ)
-    (is-from : from ≡ fromAt mv m) (is-to : to ≡ toAt mv m) (is-span : span ≡ spanAt mv m) (early : span ≤ 255)
-    (met : Met l al from m x) (changed : Changed l l′ to (pushed l x to span)) (grown : Grown l l′ d) where
-  move-late : (t : ℕ) → t + span < rowTicks → has l′ to (t + span) ≡ (has l to (t + span) || (has l from t && has al m t))
-  move-late t h =
-      let place : 256 - span + (t + span) ≡ 256 + t = omega arith in
-      changed .here (t + span) h ∙ ap (λ (b : Bool). has l to (t + span) || b) (ap (at x) place ∙ met .late t (omega arith))
+module _ (mv sw : List ℕ) (g : ℕ → ℕ → Bool) (b m from to span : ℕ)
+    (is-from : from ≡ fromAt mv m) (is-to : to ≡ toAt mv m) (is-span : span ≡ spanAt mv m) where
+  -- the motion is closed, by its number in the block
+  abbrev Ends : Pairs → Type 0
+  Ends R = (i : ℕ) → i < blockTicks → R from (blockStart b + i - span) ≡ true → endsAt mv sw g m (blockStart b + i) ≡ true → R to (blockStart b + i) ≡ true
 
-  move-early : (t : ℕ) → t < rowTicks → t < span → has l′ to t ≡ true → has l to t ≡ true
-  move-early t h lt e =
-      either (has l to t) (at x (256 - span + t)) (sym (changed .here t h) ∙ e)
-      (λ u. u)
-      (λ u. absurd (false≢true (sym (met .early (256 - span + t) (omega arith)) ∙ u)))
+  ends-closed : (R : Pairs) → Ends R → MoveClosed mv sw g b m R
+  ends-closed R ends u lo hi on may =
+      let i : ℕ = u + spanAt mv m - blockStart b in
+      let place : u + spanAt mv m ≡ blockStart b + (u + spanAt mv m - blockStart b) = omega arith in
+      let back : blockStart b + (u + spanAt mv m - blockStart b) - span ≡ u = omega arith in
+      ap₂ R (sym is-to) place
+      ∙ ends i (omega arith) (ap₂ R is-from back ∙ on) (ap (endsAt mv sw g m) (sym place) ∙ may)
 
-  move-kept : Inside l (has l′)
-  move-kept s t h e =
-      decide (eqb s to)
-      (λ u.
-      let same : s ≡ to = eqb-true s to u in
-      rw same (changed .here t h ∙ or-left (has l to t) (at x (256 - span + t)) (rw same at e)))
-      (λ u. changed .others s t (eqb-false s to u) h ∙ e)
+  closed-ends : span ≤ spanLimit → (R : Pairs) → MoveClosed mv sw g b m R → Ends R
+  closed-ends short R closed i lt on may =
+      let place : blockStart b + i - span + spanAt mv m ≡ blockStart b + i = omega arith in
+      ap₂ R is-to (sym place)
+      ∙ closed (blockStart b + i - span) (omega arith) (omega arith) (ap (λ (x : ℕ). R x (blockStart b + i - span)) (sym is-from) ∙ on) (ap (endsAt mv sw g m) place ∙ may)
 
-  abbrev Closed-here : Pairs → Type 0
-  Closed-here R = (t : ℕ) → t + span < rowTicks → R from t ≡ true → has al m t ≡ true → R to (t + span) ≡ true
+module _ (mv l l′ al : List ℕ) (b m from to span : ℕ) (small : b < blocks)
+    (is-from : from ≡ fromAt mv m) (is-to : to ≡ toAt mv m) (is-span : span ≡ spanAt mv m) (short : span ≤ spanLimit)
+    (changed : Changed l l′ to b (pushed l al from to m span b)) where
+  -- what a push sets
+  pub push-set : (d : ℕ) → Grown l l′ d → RowSet b (toAt mv m) l l′ d
+  push-set d grown =
+      rw (← is-to) (block-set l l′ to b (pushed l al from to m span b) small changed d
+      (λ i lt e. or-left (has l to (blockStart b + i)) (has l from (blockStart b + i - span) && at al (m * blockTicks + i)) e) grown)
 
-  move-within : (R : Pairs) → Closed-here R → Inside l R → Inside l′ R
-  move-within R c i s t h e =
-      decide (eqb s to)
-      (λ u.
-      let same : s ≡ to = eqb-true s to u in
-      let here : has l′ to t ≡ true = rw same at e in
-      rw same (decide (ltb t span)
-      (λ w. i to t h (move-early t h (ltb-true t span w) here))
-      (λ w.
-      let back : t ≡ t - span + span = omega (arith, ltb-false t span w) in
-      let bits : (has l to (t - span + span) || (has l from (t - span) && has al m (t - span))) ≡ true =
-      sym (move-late (t - span) (omega arith)) ∙ sym (ap (has l′ to) back) ∙ here in
-      either (has l to (t - span + span)) (has l from (t - span) && has al m (t - span)) bits
-      (λ o. i to t h (ap (has l to) back ∙ o))
-      (λ o.
-      ap (R to) back
-      ∙ c (t - span) (omega arith)
-      (i from (t - span) (omega arith) (and-left (has l from (t - span)) (has al m (t - span)) o))
-      (and-right (has l from (t - span)) (has al m (t - span)) o)))))
-      (λ u. i s t h (sym (changed .others s t (eqb-false s to u) h) ∙ e))
+  module _ (sw : List ℕ) (g : ℕ → ℕ → Bool) (ready : RowReady g b mv sw al m) where
+    pub push-within : Within (MoveClosed mv sw g b m) l l′
+    push-within R closed inside =
+        block-within l l′ to b (pushed l al from to m span b) small changed R
+        (λ i lt e.
+        either (has l to (blockStart b + i)) (has l from (blockStart b + i - span) && at al (m * blockTicks + i)) e
+        (λ o. inside to (blockStart b + i) (omega arith) o)
+        (λ o.
+        closed-ends mv sw g b m from to span is-from is-to is-span short R closed i lt
+        (inside from (blockStart b + i - span) (omega arith) (and-left (has l from (blockStart b + i - span)) (at al (m * blockTicks + i)) o))
+        (sym (ready i lt) ∙ and-right (has l from (blockStart b + i - span)) (at al (m * blockTicks + i)) o)))
+        inside
 
-  move-closed : d ≡ 0 → Closed-here (has l′)
-  move-closed z t h e may =
-      let same : l′ ≡ l = grown .same z in
-      let was : has l from t ≡ true = rw same at e in
-      move-late t h ∙ or-right (has l to (t + span)) (has l from t && has al m t) (ap₂ (λ (a b : Bool). a && b) was may)
+    pub push-closed : (from ≡ to → ⊥) → MoveClosed mv sw g b m (has l′)
+    push-closed apart =
+        ends-closed mv sw g b m from to span is-from is-to is-span (has l′)
+        (λ i lt on may.
+        changed .here i lt
+        ∙ or-right (has l to (blockStart b + i)) (has l from (blockStart b + i - span) && at al (m * blockTicks + i))
+        (ap₂ (λ (x y : Bool). x && y) (sym (changed .others from (blockStart b + i - span) apart (omega arith)) ∙ on) (ready i lt ∙ may)))
 
-  pub move-step : Step (MoveClosed mv al m) l l′ d
-  move-step =
-      record {
-        within = λ R c. move-within R (rw (is-from, is-to, is-span) c);
-        kept = move-kept;
-        grown = grown;
-        closed = λ z. rw (is-from, is-to, is-span) at (move-closed z);
-      }
+-- where no push could set anything new
+pub quiet-closed : {g : ℕ → ℕ → Bool} {cells n k b : ℕ} {st mv sw tab : List ℕ} → Right g cells n k b st mv sw tab
+    → (l : List ℕ) (m from to span cell : ℕ) → m < k → from ≡ fromAt mv m → to ≡ toAt mv m → span ≡ spanAt mv m → cell ≡ cellAt st to → cell < cells
+    → ((i : ℕ) → i < blockTicks → has l from (blockStart b + i - span) ≡ true → at tab (cell * windowTicks + blockTicks + i) ≡ true → has l to (blockStart b + i) ≡ true)
+    → MoveClosed mv sw g b m (has l)
+quiet-closed {g = g} {b = b} {st = st} {mv = mv} {sw = sw} {tab = tab} r l m from to span cell lt-k is-from is-to is-span is-cell known-cell old =
+    ends-closed mv sw g b m from to span is-from is-to is-span (has l)
+    (λ i lt on may.
+    let place : cell * windowTicks + blockTicks + i ≡ cell * windowTicks + (blockTicks + i) = omega arith in
+    let position : blockTicks * b + (blockTicks + i) ≡ blockStart b + i = omega arith in
+    let same : cell ≡ cellAt st (toAt mv m) = is-cell ∙ ap (cellAt st) is-to in
+    old i lt on
+    (ap (at tab) place ∙ free-row r cell (blockTicks + i) known-cell (omega arith) ∙ ap₂ g same position ∙ r .ends m (blockStart b + i) lt-k may))
 
-  move-on : (from ≡ to → ⊥) → Closed-here (has l′)
-  move-on ne t h e may =
-      move-late t h
-      ∙ or-right (has l to (t + span)) (has l from t && has al m t)
-      (ap₂ (λ (a b : Bool). a && b) (sym (changed .others from t ne (omega arith)) ∙ e) may)
+-- the row of motion m is worked out
+pub ready-more : (g : ℕ → ℕ → Bool) (k b m : ℕ) (mv sw known al al′ : List ℕ)
+    → ((x i : ℕ) → (x ≡ m → ⊥) → i < blockTicks → at al′ (x * blockTicks + i) ≡ at al (x * blockTicks + i))
+    → RowReady g b mv sw al′ m → Ready g k b mv sw known al → Ready g k b mv sw (set known m 1) al′
+ready-more g k b m mv sw known al al′ others here ready x lt marked i h =
+    decide (eqb x m)
+    (λ u. rw (eqb-true x m u) (here i h))
+    (λ u.
+    let ne : x ≡ m → ⊥ = eqb-false x m u in
+    others x i ne h ∙ ready x lt (λ z. marked (getD-set-other known m x 1 0 ne ∙ z)) i h)
 
-  pub move-after : Moved mv al m l l′
-  move-after =
-      record {
-        closed = λ ne. rw (is-from, is-to, is-span) at (move-on (λ same. ne (sym is-from ∙ same ∙ is-to)));
-        others = λ x t ne h. changed .others x t (λ same. ne (same ∙ is-to)) h;
-      }
+-- the row of motion m is right after al and known have changed to al′ and known′
+pub record Prepared (cells n k b m : ℕ) (st mv sw tab known al known′ al′ : List ℕ) : Type 0 where
+  pub sized : length al′ ≡ length al
+  pub rows : (g : ℕ → ℕ → Bool) → Right g cells n k b st mv sw tab → Ready g k b mv sw known al → Ready g k b mv sw known′ al′ × RowReady g b mv sw al′ m
+
+-- it was known before
+pub prepared-known : (cells n k b m : ℕ) (st mv sw tab known al known′ al′ : List ℕ) → m < k → (getD known m 0 ≡ 0 → ⊥) → al′ ≡ al → known′ ≡ known
+    → Prepared cells n k b m st mv sw tab known al known′ al′
+prepared-known cells n k b m st mv sw tab known al known′ al′ lt marked same-al same-known =
+    rw (same-al, same-known) (record { sized = refl; rows = λ g right ready. (ready, ready m lt marked) })
 
 -- ---- the waits of a state
 
-module _ (st fr l l′ : List ℕ) (s d c : ℕ) (is-cell : c ≡ cellAt st s) (stands : speedAt st s ≡ 0)
-    (changed : Changed l l′ s (filled l fr s c)) (grown : Grown l l′ d) where
+module _ (l l′ tab : List ℕ) (b s c : ℕ) (small : b < blocks) (changed : Changed l l′ s b (filled l tab s c b)) where
+  abbrev free : ℕ → Bool
+  free j = at tab (c * windowTicks + 255 + j)
+
+  abbrev held : ℕ → Bool
+  held j = has l s (blockTicks * b + 255 + j)
+
   abbrev run : ℕ → Bool
-  run t = waited (has fr c) (has l s) t
+  run j = waited free held j
 
-  run-free : (t : ℕ) → run t ≡ true → has fr c t ≡ true
+  -- what a fill sets
+  pub fill-set : (d : ℕ) → Grown l l′ d → RowSet b s l l′ d
+  fill-set d grown =
+      block-set l l′ s b (filled l tab s c b) small changed d (λ i lt e. or-left (has l s (blockStart b + i)) (run (suc i)) e) grown
+
+  run-free : (j : ℕ) → run j ≡ true → free j ≡ true
   unfolding waited
-  run-free zero e = and-left (has fr c 0) (has l s 0) e
-  run-free (suc t) e = and-left (has fr c (suc t)) (has l s (suc t) || run t) e
+  run-free zero e = and-left (free 0) (held 0) e
+  run-free (suc j) e = and-left (free (suc j)) (held (suc j) || run j) e
 
-  run-here : (t : ℕ) → has fr c t ≡ true → has l s t ≡ true → run t ≡ true
+  run-here : (j : ℕ) → free j ≡ true → held j ≡ true → run j ≡ true
   unfolding waited
   run-here zero p e = rw (p, e)
-  run-here (suc t) p e = rw (p, e)
+  run-here (suc j) p e = rw (p, e)
 
-  run-next : (t : ℕ) → has fr c (suc t) ≡ true → run t ≡ true → run (suc t) ≡ true
+  run-next : (j : ℕ) → free (suc j) ≡ true → run j ≡ true → run (suc j) ≡ true
   unfolding waited
-  run-next t p e = rw p (or-right (has l s (suc t)) (run t) e)
+  run-next j p e = rw p (or-right (held (suc j)) (run j) e)
 
+  run-case : {X : Type 0} (j : ℕ) → run (suc j) ≡ true → (held (suc j) ≡ true → X) → (run j ≡ true → X) → X
+  unfolding waited
+  run-case j e f g = either (held (suc j)) (run j) (and-right (free (suc j)) (held (suc j) || run j) e) f g
+
+  run-first : run 0 ≡ true → held 0 ≡ true
+  unfolding waited
+  run-first e = and-right (free 0) (held 0) e
+
+  -- one wait, by its number
   abbrev Waits : Pairs → Type 0
-  Waits R = (t : ℕ) → suc t < rowTicks → R s t ≡ true → has fr c t ≡ true → has fr c (suc t) ≡ true → R s (suc t) ≡ true
+  Waits R = (j : ℕ) → j < blockTicks → R s (blockTicks * b + 255 + j) ≡ true → free j ≡ true → free (suc j) ≡ true → R s (blockTicks * b + 255 + suc j) ≡ true
 
-  run-within : (R : Pairs) → Waits R → Inside l R → (t : ℕ) → t < rowTicks → run t ≡ true → R s t ≡ true
-  unfolding waited
-  run-within R w i zero h e = i s 0 h (and-right (has fr c 0) (has l s 0) e)
-  run-within R w i (suc t) h e =
-      either (has l s (suc t)) (run t) (and-right (has fr c (suc t)) (has l s (suc t) || run t) e)
-      (λ o. i s (suc t) h o)
-      (λ o. w t h (run-within R w i t (omega arith) o) (run-free t o) (run-free (suc t) e))
+  run-within : (R : Pairs) → Waits R → Inside l R → (j : ℕ) → j ≤ blockTicks → run j ≡ true → R s (blockTicks * b + 255 + j) ≡ true
+  run-within R w inside zero h e = inside s (blockTicks * b + 255 + 0) (omega arith) (run-first e)
+  run-within R w inside (suc j) h e =
+      run-case j e
+      (λ o. inside s (blockTicks * b + 255 + suc j) (omega arith) o)
+      (λ o. w j (omega arith) (run-within R w inside j (omega arith) o) (run-free j o) (run-free (suc j) e))
 
-  wait-within : (R : Pairs) → Waits R → Inside l R → Inside l′ R
-  wait-within R w i x t h e =
-      decide (eqb x s)
-      (λ u.
-      let same : x ≡ s = eqb-true x s u in
-      let here : has l′ s t ≡ true = rw same at e in
-      rw same (either (has l s t) (run t) (sym (changed .here t h) ∙ here) (λ o. i s t h o) (λ o. run-within R w i t h o)))
-      (λ u. i x t h (sym (changed .others x t (eqb-false x s u) h) ∙ e))
+  next-place : (i : ℕ) → blockTicks * b + 255 + suc i ≡ blockStart b + i
+  next-place i = omega arith
 
-  wait-kept : Inside l (has l′)
-  wait-kept x t h e =
-      decide (eqb x s)
-      (λ u.
-      let same : x ≡ s = eqb-true x s u in
-      rw same (changed .here t h ∙ or-left (has l s t) (run t) (rw same at e)))
-      (λ u. changed .others x t (eqb-false x s u) h ∙ e)
+  waits-within : (R : Pairs) → Waits R → Inside l R → Inside l′ R
+  waits-within R w inside =
+      block-within l l′ s b (filled l tab s c b) small changed R
+      (λ i lt e.
+      either (has l s (blockStart b + i)) (run (suc i)) e
+      (λ o. inside s (blockStart b + i) (omega arith) o)
+      (λ o. ap (R s) (sym (next-place i)) ∙ run-within R w inside (suc i) (omega arith) o))
+      inside
 
-  wait-closed : d ≡ 0 → Waits (has l′)
-  wait-closed z t h e now next =
-      let same : l′ ≡ l = grown .same z in
-      let was : has l s t ≡ true = rw same at e in
-      changed .here (suc t) h ∙ or-right (has l s (suc t)) (run (suc t)) (run-next t next (run-here t now was))
+  -- a free position that is set is reached by waits
+  set-run : (j : ℕ) → j < blockTicks → has l′ s (blockTicks * b + 255 + j) ≡ true → free j ≡ true → run j ≡ true
+  set-run zero h e p = run-here 0 p (sym (changed .early (blockTicks * b + 255 + 0) (omega arith)) ∙ e)
+  set-run (suc i) h e p =
+      either (has l s (blockStart b + i)) (run (suc i)) (sym (changed .here i (omega arith)) ∙ sym (ap (has l′ s) (next-place i)) ∙ e)
+      (λ o. run-here (suc i) p (ap (has l s) (next-place i) ∙ o))
+      (λ o. o)
 
-  pub wait-step : Step (WaitClosed st fr s) l l′ d
-  wait-step =
-      record {
-        within = λ R w. wait-within R (rw is-cell (w stands));
-        kept = wait-kept;
-        grown = grown;
-        closed = λ z still. rw is-cell at (wait-closed z);
-      }
+  waits-closed : Waits (has l′)
+  waits-closed j h e p q =
+      ap (has l′ s) (next-place j) ∙ changed .here j h
+      ∙ or-right (has l s (blockStart b + j)) (run (suc j)) (run-next j q (set-run j h e p))
 
-  wait-on : Waits (has l′)
-  wait-on t h e now next =
-      changed .here (suc t) h
-      ∙ or-right (has l s (suc t)) (run (suc t))
-      (run-next t next (either (has l s t) (run t) (sym (changed .here t (omega arith)) ∙ e) (λ o. run-here t now o) (λ o. o)))
+  module _ (g : ℕ → ℕ → Bool) (cells n k : ℕ) (st mv sw : List ℕ) (right : Right g cells n k b st mv sw tab)
+      (is-cell : c ≡ cellAt st s) (known-cell : c < cells) (stands : speedAt st s ≡ 0) where
+    free-at : (j : ℕ) → j ≤ blockTicks → free j ≡ g (cellAt st s) (blockTicks * b + 255 + j)
+    free-at j h =
+        let place : c * windowTicks + 255 + j ≡ c * windowTicks + (255 + j) = omega arith in
+        let position : blockTicks * b + (255 + j) ≡ blockTicks * b + 255 + j = omega arith in
+        ap (at tab) place ∙ free-row right c (255 + j) known-cell (omega arith) ∙ ap₂ g is-cell position
 
-  pub wait-after : Waited st fr s l l′
-  wait-after = record { closed = λ still. rw is-cell at wait-on; others = changed .others }
+    pub fill-within : Within (WaitClosed st g b s) l l′
+    fill-within R closed =
+        waits-within R
+        (λ j h e p q.
+        let next : blockTicks * b + 255 + suc j ≡ suc (blockTicks * b + 255 + j) = omega arith in
+        ap (R s) next
+        ∙ closed stands (blockTicks * b + 255 + j) (omega arith) (omega arith) e (sym (free-at j (omega arith)) ∙ p)
+        (ap (g (cellAt st s)) (sym next) ∙ sym (free-at (suc j) (omega arith)) ∙ q))
 
--- a state that does not stand has no waits
-pub moving-after : (st fr l : List ℕ) (s : ℕ) → (speedAt st s ≡ 0 → ⊥) → Waited st fr s l l
-moving-after st fr l s ne = record { closed = λ still. absurd (ne still); others = λ x t other h. refl }
-
-pub moving-step : (st fr l : List ℕ) (s : ℕ) → (speedAt st s ≡ 0 → ⊥) → Step (WaitClosed st fr s) l l 0
-moving-step st fr l s ne =
-    record { within = λ R w i. i; kept = λ x t h e. e; grown = grown-start l; closed = λ z still. absurd (ne still) }
-
--- ---- from the start
-
-pub explored-found : (C : Pairs → Type 0) (fr l₁ l : List ℕ) (c s t : ℕ) → t < rowTicks → has fr c t ≡ true
-    → Changed (replicate 4096 0) l₁ s (seeded (replicate 4096 0) s t) → Settled C l₁ l → Explored C fr c s t l
-explored-found C fr l₁ l c s t h free seed done =
-    record {
-      found = λ e.
-          record {
-            start = done .kept s t h (seed .here t h ∙ or-right (has (replicate 4096 0) s t) (eqb t t) (eq-eqb t t refl));
-            closed = done .closed;
-            least = λ R closed begun. done .within R closed
-                (λ x u lt i.
-                decide (eqb x s)
-                (λ a.
-                let same : x ≡ s = eqb-true x s a in
-                either (has (replicate 4096 0) s u) (eqb u t) (sym (seed .here u lt) ∙ (rw same at i))
-                (λ o. absurd (false≢true (sym (empty-row 4096 s u) ∙ o)))
-                (λ o. let at-tick : u ≡ t = eqb-true u t o in rw (same, at-tick) begun))
-                (λ a. absurd (false≢true (sym (empty-row 4096 x u) ∙ sym (seed .others x u (eqb-false x s a) lt) ∙ i))));
-          };
-      nothing = λ e. absurd (false≢true (sym e ∙ free));
-    }
-
-pub explored-nothing : (C : Pairs → Type 0) (fr : List ℕ) (c s t : ℕ) → has fr c t ≡ false → Explored C fr c s t (replicate 4096 0)
-explored-nothing C fr c s t held =
-    record { found = λ e. absurd (false≢true (sym held ∙ e)); nothing = λ e x u h. empty-row 4096 x u }
+    pub fill-closed : WaitClosed st g b s (has l′)
+    fill-closed still u lo hi e now next =
+        let j : ℕ = suc u - blockStart b in
+        let place : u ≡ blockTicks * b + 255 + (suc u - blockStart b) = omega arith in
+        let after : suc u ≡ blockTicks * b + 255 + suc (suc u - blockStart b) = omega arith in
+        ap (has l′ s) after
+        ∙ waits-closed j (omega arith) (ap (has l′ s) (sym place) ∙ e)
+        (free-at j (omega arith) ∙ ap (g (cellAt st s)) (sym place) ∙ now)
+        (free-at (suc j) (omega arith) ∙ ap (g (cellAt st s)) (sym after) ∙ next)

@@ -7,7 +7,7 @@ use native.Mathlib.Omega.{arith}
 use mathlib.Core.Path.{_≡_, refl, sym, ap, _∙_}
 use mathlib.Core.Bool.{Bool, true, false, _&&_, _||_, not, false≢true, or-false}
 use lib.Bits.{bitAnd, bitOr, bitXor, and-le-l, and-le-r, or-add-and, and-step, or-step, xor-step, and-shr, or-shr, xor-shr, shifted-even, shifted-half}
-use lib.Pow.{shr-shr, shl-shr, field, mod-mod-pow}
+use lib.Pow.{pow-pos, shr-shr, shl-shr, field, mod-mod-pow}
 use lib.Dec.{ltb}
 use borrow.Author.Tests.{ltb-true, ltb-false}
 use Rattle.meaning.proofs.BasicsLaws.{and-right}
@@ -158,10 +158,19 @@ odd-xor a b = digits a b
     (λ e f. rw (odd-of a e, even-of b f) (odd-of (bitXor a b) (rw (xor-step a b, e, f) (omega arith))))
     (λ e f. rw (odd-of a e, odd-of b f) (even-of (bitXor a b) (rw (xor-step a b, e, f) (omega arith))))
 
-bit-xor : (i a b : ℕ) → bit (bitXor a b) i ≡ xor (bit a i) (bit b i)
+pub bit-xor : (i a b : ℕ) → bit (bitXor a b) i ≡ xor (bit a i) (bit b i)
 unfolding bit
 bit-xor zero a b = odd-xor a b
 bit-xor (suc i) a b = rw (xor-shr a b 1) (bit-xor i (a / 2) (b / 2))
+
+-- a word with every bit
+pub bit-full : (n i : ℕ) → i < n → bit (2 ^ n - 1) i ≡ true
+unfolding bit
+bit-full zero i h = absurd (omega arith)
+bit-full (suc n) zero h = odd-of _ (let e = pow-suc 2 n in omega (arith, pow-pos n))
+bit-full (suc n) (suc i) h =
+    let e : (2 ^ suc n - 1) / 2 ≡ 2 ^ n - 1 = (let p = pow-suc 2 n in omega (arith, pow-pos n)) in
+    rw e (bit-full n i (omega arith))
 
 -- the carry into bit i of f + x + c
 unfoldable pub carry : ℕ → ℕ → ℕ → Bool → Bool

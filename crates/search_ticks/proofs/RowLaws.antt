@@ -5,7 +5,7 @@ use native.Mathlib.Nat.{suc-mul}
 use native.Mathlib.Numerals.{add-one}
 use native.Mathlib.Omega.{arith}
 use mathlib.Core.Path.{_≡_, refl, sym, ap, ap₂, _∙_}
-use mathlib.Core.Bool.{false}
+use mathlib.Core.Bool.{Bool, false}
 use mathlib.Core.List.{List, [], _∷_}
 use lib.Bits.{bitOr, bitXor, and-le-l, and-le-r, or-add-and, xor-add-and, xor-self}
 use lib.Dec.{ltb, eqb}
@@ -13,9 +13,9 @@ use lib.ListN.{length, getD, set, replicate, length-set, length-replicate, getD-
 use lib.Seq.{getD-set-same, getD-set-other, set-getD}
 use borrow.Author.Tests.{ltb-true, ltb-false, eqb-true, eqb-false}
 use Rattle.meaning.proofs.BasicsLaws.{decide}
-use Rattle.search_sizes.specs.Sizes.{rowTicks}
+use Rattle.search_sizes.specs.Sizes.{blockTicks}
 use Rattle.search_ticks.specs.Bits.{bit, windowOf}
-use Rattle.search_ticks.specs.Rows.{at, has, Words, total, Grown}
+use Rattle.search_ticks.specs.Rows.{at, Words, total, Grown, Put}
 use Rattle.search_ticks.proofs.BitLaws.{or-zero, bit-past, window-low, window-high}
 
 pub zeros-at : (n i : ℕ) → getD (replicate {A = ℕ} n 0) i 0 ≡ 0
@@ -64,43 +64,43 @@ module _ (g : ℕ → ℕ → ℕ) (b : ℕ) where
       rw eq (map-before k (suc i) (set l (b + i) (g i (getD l (b + i) 0))) (b + i) (omega arith) ∙ getD-set-same l (b + i) _ 0 (omega arith)))
 
   -- the loop's turns, by what is left to do
-  pub map-turn : (i : ℕ) (l : List ℕ) (w : List ℕ) → i < 16 → mapRow g b (16 - i) i l ≡ w → mapRow g b (16 - (i + 1)) (i + 1) (set l (b + i) (g i (getD l (b + i) 0))) ≡ w
+  pub map-turn : (i : ℕ) (l : List ℕ) (w : List ℕ) → i < 4 → mapRow g b (4 - i) i l ≡ w → mapRow g b (4 - (i + 1)) (i + 1) (set l (b + i) (g i (getD l (b + i) 0))) ≡ w
   unfolding mapRow
   map-turn i l w h e =
-      let n : 16 - i ≡ suc (16 - (i + 1)) = omega arith in
-      let z : mapRow g b (suc (16 - (i + 1))) i l ≡ w = sym (ap (λ (k : ℕ). mapRow g b k i l) n) ∙ e in
-      step (16 - (i + 1)) z
+      let n : 4 - i ≡ suc (4 - (i + 1)) = omega arith in
+      let z : mapRow g b (suc (4 - (i + 1))) i l ≡ w = sym (ap (λ (k : ℕ). mapRow g b k i l) n) ∙ e in
+      step (4 - (i + 1)) z
     where
       step : (k : ℕ) → mapRow g b (suc k) i l ≡ w → mapRow g b k (i + 1) (set l (b + i) (g i (getD l (b + i) 0))) ≡ w
       step k z = rw (add-one i) z
 
-  pub map-end : (i : ℕ) (l w : List ℕ) → 16 ≤ i → i ≤ 16 → mapRow g b (16 - i) i l ≡ w → l ≡ w
+  pub map-end : (i : ℕ) (l w : List ℕ) → 4 ≤ i → i ≤ 4 → mapRow g b (4 - i) i l ≡ w → l ≡ w
   unfolding mapRow
   map-end i l w a h e =
-      let n : 16 - i ≡ 0 = omega arith in
-      shut (16 - i) n e
+      let n : 4 - i ≡ 0 = omega arith in
+      shut (4 - i) n e
     where
       shut : (k : ℕ) → k ≡ 0 → mapRow g b k i l ≡ w → l ≡ w
       shut zero n z = z
       shut (suc k) n z = absurd (omega arith)
 
   -- the bits of a changed row, and of the others
-  pub map-bit : (l : List ℕ) (j : ℕ) → b + 16 ≤ length l → b * 64 ≤ j → j < b * 64 + rowTicks → at (mapRow g b 16 0 l) j ≡ bit (g (j / 64 - b) (getD l (j / 64) 0)) (j % 64)
+  pub map-bit : (l : List ℕ) (j : ℕ) → b + 4 ≤ length l → b * 64 ≤ j → j < b * 64 + blockTicks → at (mapRow g b 4 0 l) j ≡ bit (g (j / 64 - b) (getD l (j / 64) 0)) (j % 64)
   unfolding at
   map-bit l j n a h =
       let e : j / 64 ≡ b + (j / 64 - b) = omega arith in
       ap (λ (x : ℕ). bit x (j % 64))
-      (ap (λ (x : ℕ). getD (mapRow g b 16 0 l) x 0) e
-      ∙ map-in 16 0 l (j / 64 - b) (omega arith) (omega arith) (omega arith)
+      (ap (λ (x : ℕ). getD (mapRow g b 4 0 l) x 0) e
+      ∙ map-in 4 0 l (j / 64 - b) (omega arith) (omega arith) (omega arith)
       ∙ ap (λ (x : ℕ). g (j / 64 - b) (getD l x 0)) (sym e))
 
-  pub map-bit-before : (l : List ℕ) (j : ℕ) → j < b * 64 → at (mapRow g b 16 0 l) j ≡ at l j
+  pub map-bit-before : (l : List ℕ) (j : ℕ) → j < b * 64 → at (mapRow g b 4 0 l) j ≡ at l j
   unfolding at
-  map-bit-before l j h = ap (λ (x : ℕ). bit x (j % 64)) (map-before 16 0 l (j / 64) (omega arith))
+  map-bit-before l j h = ap (λ (x : ℕ). bit x (j % 64)) (map-before 4 0 l (j / 64) (omega arith))
 
-  pub map-bit-after : (l : List ℕ) (j : ℕ) → b * 64 + rowTicks ≤ j → at (mapRow g b 16 0 l) j ≡ at l j
+  pub map-bit-after : (l : List ℕ) (j : ℕ) → b * 64 + blockTicks ≤ j → at (mapRow g b 4 0 l) j ≡ at l j
   unfolding at
-  map-bit-after l j h = ap (λ (x : ℕ). bit x (j % 64)) (map-after 16 0 l (j / 64) (omega arith))
+  map-bit-after l j h = ap (λ (x : ℕ). bit x (j % 64)) (map-after 4 0 l (j / 64) (omega arith))
 
 -- ---- words of 64 bits
 
@@ -119,28 +119,6 @@ set-words l i v fit h j =
     omega (arith, List·getD-eq-default (set l i v) 0 {n = j} (omega (arith, length-set l i v)))))
     (λ e. rw (getD-set-other l i j v 0 (eqb-false j i e)) (fit j))
 
--- ---- a row that is put into 20 words of 0, from word b on
-
-pub record Putting (g : ℕ → ℕ → ℕ) (b : ℕ) (x : List ℕ) (i : ℕ) : Type 0 where
-  pub sized : length x ≡ 20
-  pub fits : Words x
-  pub left : mapRow g b (16 - i) i x ≡ mapRow g b 16 0 (replicate 20 0)
-
-pub putting-start : (g : ℕ → ℕ → ℕ) (b : ℕ) → Putting g b (replicate 20 0) 0
-putting-start g b = record { sized = refl; fits = zero-words 20; left = refl }
-
-pub putting-turn : (g : ℕ → ℕ → ℕ) (b : ℕ) (x : List ℕ) (i : ℕ) → i < 16 → g i (getD x (b + i) 0) < 2 ^ 64 → Putting g b x i
-    → Putting g b (set x (b + i) (g i (getD x (b + i) 0))) (i + 1)
-putting-turn g b x i h fit p =
-    record {
-      sized = length-set x (b + i) _ ∙ p .sized;
-      fits = set-words x (b + i) (g i (getD x (b + i) 0)) (p .fits) fit;
-      left = map-turn g b i x (mapRow g b 16 0 (replicate 20 0)) h (p .left);
-    }
-
-pub putting-end : (g : ℕ → ℕ → ℕ) (b : ℕ) (x : List ℕ) (i : ℕ) → 16 ≤ i → i ≤ 16 → Putting g b x i → x ≡ mapRow g b 16 0 (replicate 20 0)
-putting-end g b x i past few p = map-end g b i x (mapRow g b 16 0 (replicate 20 0)) past few (p .left)
-
 -- ---- a window of a list of words
 pub window-at : (l : List ℕ) (w r i : ℕ) → Words l → r < 64 → i < 64 → bit (windowOf (getD l w 0) (getD l (w + 1) 0) r) i ≡ at l (w * 64 + r + i)
 unfolding at
@@ -158,34 +136,24 @@ window-at l w r i fit a h = decide (ltb (r + i) 64)
     ap (λ (x : ℕ). bit (windowOf (getD l w 0) (getD l (w + 1) 0) r) x) n
     ∙ window-high (getD l w 0) (getD l (w + 1) 0) r (r + i - 64) (fit w) a (omega arith) ∙ rw (d, m))
 
--- ---- the rows of a list
+-- ---- a loop that has changed four words from place b on
 
-module _ (g : ℕ → ℕ → ℕ) (l : List ℕ) (b : ℕ) where
-  -- the other rows stay
-  pub other-row : (s t : ℕ) → (s ≡ b → ⊥) → t < rowTicks → has (mapRow g (b * 16) 16 0 l) s t ≡ has l s t
-  unfolding has
-  other-row s t ne h = decide (ltb s b)
-      (λ e. let lt = ltb-true s b e in map-bit-before g (b * 16) l (s * rowTicks + t) (omega arith))
-      (λ e. let ge = ltb-false s b e in map-bit-after g (b * 16) l (s * rowTicks + t) (omega arith))
-
-  -- the row itself
-  pub this-row : (t : ℕ) → t < rowTicks → b * 16 + 16 ≤ length l → has (mapRow g (b * 16) 16 0 l) b t ≡ bit (g (t / 64) (getD l (b * 16 + t / 64) 0)) (t % 64)
-  unfolding has
-  this-row t h n =
-      let i : (b * rowTicks + t) / 64 - b * 16 ≡ t / 64 = omega arith in
-      let j : (b * rowTicks + t) / 64 ≡ b * 16 + t / 64 = omega arith in
-      let k : (b * rowTicks + t) % 64 ≡ t % 64 = omega arith in
-      map-bit g (b * 16) l (b * rowTicks + t) n (omega arith) (omega arith) ∙ ap₂ (λ (x y : ℕ). bit x y) (ap₂ (λ (x y : ℕ). g x (getD l y 0)) i j) k
-
-pub has-is : (l : List ℕ) (s t : ℕ) → has l s t ≡ bit (getD l (s * 16 + t / 64) 0) (t % 64)
-unfolding has at
-has-is l s t =
-    let j : (s * rowTicks + t) / 64 ≡ s * 16 + t / 64 = omega arith in
-    let k : (s * rowTicks + t) % 64 ≡ t % 64 = omega arith in
-    ap₂ (λ (x y : ℕ). bit (getD l x 0) y) j k
-
-pub empty-row : (n s t : ℕ) → has (replicate n 0) s t ≡ false
-empty-row n s t = has-is (replicate n 0) s t ∙ ap (λ (w : ℕ). bit w (t % 64)) (zeros-at n (s * 16 + t / 64)) ∙ zero-bit (t % 64)
+pub put-done : (g : ℕ → ℕ → ℕ) (l₀ l : List ℕ) (b : ℕ) (test : ℕ → Bool) → b + 4 ≤ length l₀ → l ≡ mapRow g b 4 0 l₀
+    → ((i : ℕ) → i < blockTicks → bit (g (i / 64) (getD l₀ (b + i / 64) 0)) (i % 64) ≡ test i) → Put l₀ l (b * 64) test
+put-done g l₀ l b test room e h =
+    record {
+      here = λ i lt.
+          let word : (b * 64 + i) / 64 - b ≡ i / 64 = omega arith in
+          let place : (b * 64 + i) / 64 ≡ b + i / 64 = omega arith in
+          let digit : (b * 64 + i) % 64 ≡ i % 64 = omega arith in
+          ap (λ (k : List ℕ). at k (b * 64 + i)) e
+          ∙ map-bit g b l₀ (b * 64 + i) room (omega arith) (omega arith)
+          ∙ ap₂ (λ (x y : ℕ). bit x y) (ap₂ (λ (x y : ℕ). g x (getD l₀ y 0)) word place) digit
+          ∙ h i lt;
+      before = λ j lt. ap (λ (k : List ℕ). at k j) e ∙ map-bit-before g b l₀ j lt;
+      after = λ j le. ap (λ (k : List ℕ). at k j) e ∙ map-bit-after g b l₀ j le;
+      sized = ap length e ∙ map-length g b 4 0 l₀;
+    }
 
 -- ---- the sum of the words
 total-set : (l : List ℕ) (i v : ℕ) → i < length l → total (set l i v) + getD l i 0 ≡ total l + v

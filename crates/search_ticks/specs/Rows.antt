@@ -1,27 +1,22 @@
--- Sets of ticks: a row of 16 words of 64 bits has the ticks 0 to 1023, and a list of words has rows one after the other.
--- What the functions over rows do to these sets.
+-- Sets of ticks as bits of words of 64, and what the functions over them do to these sets. A row has 1280 positions: tick t is at
+-- position 256 + t (see search_sizes). A list of words has rows one after the other.
 -- Assumes nothing.
-use Prim.Native.Nat.{ℕ, zero, suc, _+_, _-_, _*_, _/_, _%_, _^_, _<_}
+use Prim.Native.Nat.{ℕ, zero, suc, _+_, _-_, _*_, _/_, _%_, _^_, _≤_, _<_}
 use mathlib.Core.Path.{_≡_}
-use mathlib.Core.Bool.{Bool, false, _&&_, _||_}
+use mathlib.Core.Bool.{Bool, _&&_, _||_}
 use mathlib.Core.List.{List, [], _∷_}
-use lib.Dec.{ltb, eqb}
+use lib.Dec.{eqb}
 use lib.ListN.{length, getD}
-use Rattle.meaning.specs.Board.{Free}
-use Rattle.search_sizes.specs.Sizes.{rowTicks, paddingTicks}
+use Rattle.search_sizes.specs.Sizes.{blockTicks, windowTicks, rowTicks, blockStart}
 use Rattle.search_ticks.specs.Bits.{bit}
 
 -- bit j of a list of words
 unfoldable pub at : List ℕ → ℕ → Bool
 at l j = bit (getD l (j / 64) 0) (j % 64)
 
--- tick t is in row s
+-- position u is in row s
 unfoldable pub has : List ℕ → ℕ → ℕ → Bool
-has l s t = at l (s * rowTicks + t)
-
--- the rows as a test of cells and ticks: no tick above 1023 is in a row
-unfoldable pub rowsFree : List ℕ → Free
-rowsFree l c t = ltb t rowTicks && has l c t
+has l s u = at l (s * rowTicks + u)
 
 abbrev pub Words : List ℕ → Type 0
 Words l = (i : ℕ) → getD l i 0 < 2 ^ 64
@@ -42,31 +37,39 @@ pub record Grown (l₀ l : List ℕ) (d : ℕ) : Type 0 where
   pub more : 0 < d → total l₀ < total l
   pub sized : length l ≡ length l₀
 
--- ---- one row changed
+-- ---- a block of bits changed
 
--- row s has the ticks that the test says, and the other rows are as before
-pub record Changed (l₀ l : List ℕ) (s : ℕ) (test : ℕ → Bool) : Type 0 where
-  pub here : (t : ℕ) → t < rowTicks → has l s t ≡ test t
-  pub others : (x t : ℕ) → (x ≡ s → ⊥) → t < rowTicks → has l x t ≡ has l₀ x t
+-- from bit p on 256 bits are as the test says, and the others are as before
+pub record Put (l₀ l : List ℕ) (p : ℕ) (test : ℕ → Bool) : Type 0 where
+  pub here : (i : ℕ) → i < blockTicks → at l (p + i) ≡ test i
+  pub before : (j : ℕ) → j < p → at l j ≡ at l₀ j
+  pub after : (j : ℕ) → p + blockTicks ≤ j → at l j ≡ at l₀ j
   pub sized : length l ≡ length l₀
 
--- the ticks that row s of l and row m of k share, behind ticks that are in neither
-pub record Met (l k : List ℕ) (s m : ℕ) (x : List ℕ) : Type 0 where
-  pub fits : Words x
-  pub early : (j : ℕ) → j < paddingTicks → at x j ≡ false
-  pub late : (t : ℕ) → t < rowTicks → at x (paddingTicks + t) ≡ has l s t && has k m t
+-- row s has in block b the positions that the test says, by their number in the block, and all else is as before
+pub record Changed (l₀ l : List ℕ) (s b : ℕ) (test : ℕ → Bool) : Type 0 where
+  pub here : (i : ℕ) → i < blockTicks → has l s (blockStart b + i) ≡ test i
+  pub early : (u : ℕ) → u < blockStart b → has l s u ≡ has l₀ s u
+  pub late : (u : ℕ) → blockStart b + blockTicks ≤ u → u < rowTicks → has l s u ≡ has l₀ s u
+  pub others : (x u : ℕ) → (x ≡ s → ⊥) → u < rowTicks → has l x u ≡ has l₀ x u
+  pub sized : length l ≡ length l₀
 
--- in the set, or one of x's that is span ticks earlier
-abbrev pub pushed : List ℕ → List ℕ → ℕ → ℕ → ℕ → Bool
-pushed l x s span t = has l s t || at x (paddingTicks - span + t)
+-- in row `to`, or in row `from` span earlier where row m of k has the position of the block
+abbrev pub pushed : List ℕ → List ℕ → ℕ → ℕ → ℕ → ℕ → ℕ → ℕ → Bool
+pushed l k from to m span b i = has l to (blockStart b + i) || (has l from (blockStart b + i - span) && at k (m * blockTicks + i))
 
--- what waits reach: a free tick that is in the set, or whose tick before is reached so
+-- what waits reach: a free number that is in the set, or whose number before is reached so
 unfoldable pub waited : (ℕ → Bool) → (ℕ → Bool) → ℕ → Bool
 waited free set zero = free 0 && set 0
-waited free set (suc t) = free (suc t) && (set (suc t) || waited free set t)
+waited free set (suc i) = free (suc i) && (set (suc i) || waited free set i)
 
-abbrev pub filled : List ℕ → List ℕ → ℕ → ℕ → ℕ → Bool
-filled l f s c t = has l s t || waited (has f c) (has l s) t
+-- in row s, or reached by waits from a position of the block or from the last one before it, where row c of f has the free positions
+-- of the block and the one before it
+abbrev pub filled : List ℕ → List ℕ → ℕ → ℕ → ℕ → ℕ → Bool
+filled l f s c b i =
+    has l s (blockStart b + i) || waited (λ (j : ℕ). at f (c * windowTicks + 255 + j)) (λ (j : ℕ). has l s (blockTicks * b + 255 + j)) (suc i)
 
-abbrev pub seeded : List ℕ → ℕ → ℕ → ℕ → Bool
-seeded l s u t = has l s t || eqb t u
+-- tick t is put into row s
+pub record Seeded (l₀ l : List ℕ) (s t : ℕ) : Type 0 where
+  pub bits : (x u : ℕ) → u < rowTicks → has l x u ≡ (has l₀ x u || (eqb x s && eqb u (blockTicks + t)))
+  pub sized : length l ≡ length l₀

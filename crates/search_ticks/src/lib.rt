@@ -1,15 +1,15 @@
-// Sets of ticks as rows of 16 words of 64 bits.
-use search_sizes::PADDED_WORDS;
-use search_sizes::PADDING_TICKS;
-use search_sizes::PADDING_WORDS;
+// Sets of ticks as rows of words of 64 bits, of which a search changes one block of 256 ticks at a time.
+use search_sizes::BLOCK_TICKS;
+use search_sizes::BLOCK_WORDS;
 use search_sizes::ROW_WORDS;
+use search_sizes::WINDOW_WORDS;
 ghost use mathlib.Core.Path.{_≡_};
-ghost use mathlib.Core.Bool.{false};
-ghost use Prim.Native.Nat.{ℕ, _+_, _*_, _≤_, _<_};
+ghost use mathlib.Core.Bool.{true, false};
+ghost use Prim.Native.Nat.{ℕ, _+_, _-_, _*_, _≤_, _<_};
 ghost use lib.ListN.{length};
-ghost use Rattle.search_sizes.specs.Sizes.{rowWords, rowTicks, spanLimit};
+ghost use Rattle.search_sizes.specs.Sizes.{blockWords, blockTicks, blocks, windowWords, windowTicks, rowWords, ticks, blockStart, spanLimit};
 ghost use Rattle.search_ticks.specs.Bits.{windowOf, fillOf};
-ghost use Rattle.search_ticks.specs.Rows.{has, Words, Grown, Changed, Met, pushed, filled, seeded};
+ghost use Rattle.search_ticks.specs.Rows.{at, has, Grown, Changed, pushed, filled, Seeded};
 
 // ---- single words
 
@@ -34,87 +34,53 @@ fn fill_word(f: u64, x: u64, c: u64) -> u64
 
 // Whether tick t is in row s.
 pub fn is_set(l: &[u64], s: usize, t: usize) -> bool
-    requires { ⌜ (s * rowWords + rowWords ≤ length (now l)) × (t < rowTicks) ⌝ }
-    ensures { λ r. ⌜ r ≡ has (now (l .entry)) s t ⌝ }
+    requires { ⌜ (s * rowWords + rowWords ≤ length (now l)) × (t < ticks) ⌝ }
+    ensures { λ r. ⌜ r ≡ has (now (l .entry)) s (blockTicks + t) ⌝ }
 {
-    let word = l[s * ROW_WORDS + t / 64];
+    let word = l[s * ROW_WORDS + BLOCK_WORDS + t / 64];
     (word >> (t % 64)) % 2 == 1
 }
 
-// The union of the words of row s: 0 only if the row is empty.
-pub fn row_union(l: &[u64], s: usize) -> u64
-    requires { ⌜ s * rowWords + rowWords ≤ length (now l) ⌝ }
-    ensures { λ r. ⌜ (r ≡ 0 → ((t : ℕ) → t < rowTicks → has (now (l .entry)) s t ≡ false)) ⌝ }
+// Puts tick t into row s.
+pub fn seed(l: &mut [u64], s: usize, t: usize)
+    requires { ⌜ (s * rowWords + rowWords ≤ length (now l)) × (t < ticks) ⌝ }
+    ensures { λ _. ⌜ Seeded (now (l .entry)) (now (l .exit)) s t ⌝ }
 {
-    let a = s * ROW_WORDS;
+    let place = s * ROW_WORDS + BLOCK_WORDS + t / 64;
+    l[place] = l[place] | (1 << (t % 64));
+}
+
+// ---- a block of a row, and the one before it
+
+// The union of the words of row s in the block and the one before it: 0 only if both are empty.
+pub fn window_union(l: &[u64], s: usize, block: usize) -> u64
+    requires { ⌜ (s * rowWords + rowWords ≤ length (now l)) × (block < blocks) ⌝ }
+    ensures { λ r. ⌜ (r ≡ 0 → ((i : ℕ) → i < windowTicks → has (now (l .entry)) s (blockTicks * block + i) ≡ false)) ⌝ }
+{
+    let a = s * ROW_WORDS + block * BLOCK_WORDS;
     let mut all: u64 = 0;
     let mut i = 0;
-    while i < ROW_WORDS {
+    while i < WINDOW_WORDS {
         all = all | l[a + i];
         i += 1;
     }
     all
 }
 
-// Puts tick t into row s.
-pub fn seed(l: &mut [u64], s: usize, t: usize)
-    requires { ⌜ (s * rowWords + rowWords ≤ length (now l)) × (t < rowTicks) ⌝ }
-    ensures { λ _. ⌜ Changed (now (l .entry)) (now (l .exit)) s (seeded (now (l .entry)) s t) ⌝ }
-{
-    let place = s * ROW_WORDS + t / 64;
-    l[place] = l[place] | (1 << (t % 64));
-}
-
-// The ticks that row s of l and row m of k share, behind 4 words of 0: a push shifts them up.
-pub fn meet(l: &[u64], k: &[u64], s: usize, m: usize) -> [u64; PADDED_WORDS]
-    requires { ⌜ (s * rowWords + rowWords ≤ length (now l)) × (m * rowWords + rowWords ≤ length (now k)) ⌝ }
-    ensures { λ x. ⌜ Met (now (l .entry)) (now (k .entry)) s m x ⌝ }
-{
-    let a = s * ROW_WORDS;
-    let b = m * ROW_WORDS;
-    let mut x = [0u64; PADDED_WORDS];
-    let mut i = 0;
-    while i < ROW_WORDS {
-        x[PADDING_WORDS + i] = l[a + i] & k[b + i];
-        i += 1;
-    }
-    x
-}
-
-// Sets the ticks of x, `span` ticks later, in row `to`. Answers the bits that were new, of all words together.
-pub fn push(l: &mut [u64], x: &[u64; PADDED_WORDS], to: usize, span: usize) -> u64
-    requires { ⌜ (to * rowWords + rowWords ≤ length (now l)) × ((1 ≤ span) × (span ≤ spanLimit)) ⌝ }
-    requires { ⌜ Words (now x) ⌝ }
-    ensures { λ d. ⌜ Changed (now (l .entry)) (now (l .exit)) to (pushed (now (l .entry)) (now (x .entry)) to span) ⌝ }
+// Sets in the block of row s what waits reach, where row c of f has the free ticks of the block and the one before it.
+// Answers the bits that were new, of all words together.
+pub fn fill(l: &mut [u64], f: &[u64], s: usize, c: usize, block: usize) -> u64
+    requires { ⌜ (s * rowWords + rowWords ≤ length (now l)) × (block < blocks) ⌝ }
+    requires { ⌜ c * windowWords + windowWords ≤ length (now f) ⌝ }
+    ensures { λ d. ⌜ Changed (now (l .entry)) (now (l .exit)) s block (filled (now (l .entry)) (now (f .entry)) s c block) ⌝ }
     ensures { λ d. ⌜ Grown (now (l .entry)) (now (l .exit)) d ⌝ }
 {
-    let a = to * ROW_WORDS;
-    let q = (PADDING_TICKS - span) / 64;
-    let r = ((PADDING_TICKS - span) % 64) as u64;
+    let a = s * ROW_WORDS + block * BLOCK_WORDS + BLOCK_WORDS;
+    let b = c * WINDOW_WORDS + BLOCK_WORDS;
+    let mut carry = (l[a - 1] & f[b - 1]) >> 63;
     let mut diff: u64 = 0;
     let mut i = 0;
-    while i < ROW_WORDS {
-        let old = l[a + i];
-        let new = old | window(x[q + i], x[q + i + 1], r);
-        diff = diff | (new ^ old);
-        l[a + i] = new;
-        i += 1;
-    }
-    diff
-}
-
-// Sets in row s what waits reach, where row c of f has the free ticks. Answers the bits that were new.
-pub fn fill_row(l: &mut [u64], f: &[u64], s: usize, c: usize) -> u64
-    requires { ⌜ (s * rowWords + rowWords ≤ length (now l)) × (c * rowWords + rowWords ≤ length (now f)) ⌝ }
-    ensures { λ d. ⌜ Changed (now (l .entry)) (now (l .exit)) s (filled (now (l .entry)) (now (f .entry)) s c) ⌝ }
-    ensures { λ d. ⌜ Grown (now (l .entry)) (now (l .exit)) d ⌝ }
-{
-    let a = s * ROW_WORDS;
-    let b = c * ROW_WORDS;
-    let mut carry: u64 = 0;
-    let mut diff: u64 = 0;
-    let mut i = 0;
-    while i < ROW_WORDS {
+    while i < BLOCK_WORDS {
         let old = l[a + i];
         let run = fill_word(f[b + i], old, carry);
         let new = old | run;
@@ -124,4 +90,66 @@ pub fn fill_row(l: &mut [u64], f: &[u64], s: usize, c: usize) -> u64
         i += 1;
     }
     diff
+}
+
+// Sets in the block of row `to` the ticks of row `from`, `span` later, that row m of k has in the block. Answers the bits that were new.
+pub fn push(
+    l: &mut [u64],
+    k: &[u64],
+    from: usize,
+    to: usize,
+    m: usize,
+    span: usize,
+    block: usize,
+) -> u64
+    requires { ⌜ (from * rowWords + rowWords ≤ length (now l)) × ((to * rowWords + rowWords ≤ length (now l)) × (from ≡ to → ⊥)) ⌝ }
+    requires { ⌜ (block < blocks) × ((1 ≤ span) × (span ≤ spanLimit)) ⌝ }
+    requires { ⌜ m * blockWords + blockWords ≤ length (now k) ⌝ }
+    ensures { λ d. ⌜ Changed (now (l .entry)) (now (l .exit)) to block (pushed (now (l .entry)) (now (k .entry)) from to m span block) ⌝ }
+    ensures { λ d. ⌜ Grown (now (l .entry)) (now (l .exit)) d ⌝ }
+{
+    let a = from * ROW_WORDS + block * BLOCK_WORDS + (BLOCK_TICKS - span) / 64;
+    let b = to * ROW_WORDS + block * BLOCK_WORDS + BLOCK_WORDS;
+    let c = m * BLOCK_WORDS;
+    let r = ((BLOCK_TICKS - span) % 64) as u64;
+    let mut diff: u64 = 0;
+    let mut i = 0;
+    while i < BLOCK_WORDS {
+        let old = l[b + i];
+        let new = old | (window(l[a + i], l[a + i + 1], r) & k[c + i]);
+        diff = diff | (new ^ old);
+        l[b + i] = new;
+        i += 1;
+    }
+    diff
+}
+
+// What a push could set: 0 only if row `to` has in the block every tick of row `from`, `span` later, at which row c of f is free.
+pub fn news(
+    l: &[u64],
+    f: &[u64],
+    from: usize,
+    to: usize,
+    c: usize,
+    span: usize,
+    block: usize,
+) -> u64
+    requires { ⌜ (from * rowWords + rowWords ≤ length (now l)) × (to * rowWords + rowWords ≤ length (now l)) ⌝ }
+    requires { ⌜ (block < blocks) × ((1 ≤ span) × (span ≤ spanLimit)) ⌝ }
+    requires { ⌜ c * windowWords + windowWords ≤ length (now f) ⌝ }
+    ensures { λ r. ⌜ (r ≡ 0 → ((i : ℕ) → i < blockTicks → has (now (l .entry)) from (blockStart block + i - span) ≡ true
+        → at (now (f .entry)) (c * windowTicks + blockTicks + i) ≡ true → has (now (l .entry)) to (blockStart block + i) ≡ true)) ⌝ }
+{
+    let a = from * ROW_WORDS + block * BLOCK_WORDS + (BLOCK_TICKS - span) / 64;
+    let b = to * ROW_WORDS + block * BLOCK_WORDS + BLOCK_WORDS;
+    let d = c * WINDOW_WORDS + BLOCK_WORDS;
+    let r = ((BLOCK_TICKS - span) % 64) as u64;
+    let mut all: u64 = 0;
+    let mut i = 0;
+    while i < BLOCK_WORDS {
+        all = all
+            | ((window(l[a + i], l[a + i + 1], r) & f[d + i]) & (l[b + i] ^ 18446744073709551615));
+        i += 1;
+    }
+    all
 }

@@ -14,9 +14,9 @@ use Rattle.meaning.specs.Reach.{rowsTo, reachWord, reached, waitOne, trace}
 use Rattle.meaning.proofs.ReachLaws.{Came, at-start, by-wait, by-move, came-here, move-known, trace-start, trace-wait, trace-move, word-row}
 use Rattle.meaning.proofs.MotionLaws.{good-at}
 
--- ---- what a word says
+-- ---- what a word says, and what is left to trace
 
-module _ (site : Site) (well : WellFormed site) (f : Free) (a : Node) where
+module _ (site : Site) (f : Free) (a : Node) where
   -- motion m leads here, from a reached pair
   pub record ByMotion (k w : ℕ) : Type 0 where
     pub number : ℕ
@@ -27,6 +27,15 @@ module _ (site : Site) (well : WellFormed site) (f : Free) (a : Node) where
     pub state : motionAt site number .from < length (site .states)
     pub before : reached site f a (k - motionAt site number .span) (motionAt site number .from) ≡ true
 
+  -- the pair is reached, and its trace in front of the steps is the whole
+  pub record Rest (n : ℕ) (whole : List Step) (k s : ℕ) (ps : List Step) : Type 0 where
+    pub fuel : ℕ
+    pub enough : k < fuel
+    pub early : k ≤ n
+    pub here : reached site f a k s ≡ true
+    pub traced : trace site (rowsTo site f a n) n fuel k s ps ≡ whole
+
+module _ (site : Site) (well : WellFormed site) (f : Free) (a : Node) where
   came-wait : {k s w : ℕ} → Came site f a k s w → w ≡ 2 → (1 ≤ k) × (reached site f a (k - 1) s ≡ true)
   came-wait (at-start same free-there) e = absurd (omega arith)
   came-wait (by-wait {k = k} {s = s} r ok) e =
@@ -34,7 +43,7 @@ module _ (site : Site) (well : WellFormed site) (f : Free) (a : Node) where
       (omega arith, rw same r)
   came-wait (by-move m j same-to same-tick r ok no-wait lowest) e = absurd (omega arith)
 
-  came-motion : {k s w : ℕ} → Came site f a k s w → 1 ≤ k → (w ≡ 2 → ⊥) → ByMotion k w
+  came-motion : {k s w : ℕ} → Came site f a k s w → 1 ≤ k → (w ≡ 2 → ⊥) → ByMotion site f a k w
   came-motion (at-start same free-there) pos other = absurd (omega arith)
   came-motion (by-wait r ok) pos other = absurd (other refl)
   came-motion (by-move {k = k} m j same-to same-tick r ok no-wait lowest) pos other =
@@ -54,26 +63,21 @@ module _ (site : Site) (well : WellFormed site) (f : Free) (a : Node) where
   said-wait : (k s : ℕ) → reached site f a k s ≡ true → reachWord site f a k s ≡ 2 → (1 ≤ k) × (reached site f a (k - 1) s ≡ true)
   said-wait k s r e = came-wait (came-here site well f a k s r) e
 
-  pub said-motion : (k s w : ℕ) → reached site f a k s ≡ true → w ≡ reachWord site f a k s → 1 ≤ k → (w ≡ 2 → ⊥) → ByMotion k w
+  pub said-motion : (k s w : ℕ) → reached site f a k s ≡ true → w ≡ reachWord site f a k s → 1 ≤ k → (w ≡ 2 → ⊥) → ByMotion site f a k w
   said-motion k s w r e pos other = rw e (came-motion (came-here site well f a k s r) pos (λ two. other (e ∙ two)))
 
   -- ---- a turn
 
   module _ (n : ℕ) (whole : List Step) where
-    -- the pair is reached, and its trace in front of the steps is the whole
-    pub record Rest (k s : ℕ) (ps : List Step) : Type 0 where
-      pub fuel : ℕ
-      pub enough : k < fuel
-      pub early : k ≤ n
-      pub here : reached site f a k s ≡ true
-      pub traced : trace site (rowsTo site f a n) n fuel k s ps ≡ whole
+    abbrev Left : ℕ → ℕ → List Step → Type 0
+    Left k s ps = Rest site f a n whole k s ps
 
-    fueled : {k s : ℕ} {ps : List Step} (r : Rest k s ps) → trace site (rowsTo site f a n) n (suc (r .fuel - 1)) k s ps ≡ whole
+    fueled : {k s : ℕ} {ps : List Step} (r : Left k s ps) → trace site (rowsTo site f a n) n (suc (r .fuel - 1)) k s ps ≡ whole
     fueled {k} {s} {ps} r =
         let same : suc (r .fuel - 1) ≡ r .fuel = omega (arith, r .enough) in
         ap (λ (j : ℕ). trace site (rowsTo site f a n) n j k s ps) same ∙ r .traced
 
-    pub rest-wait : {k s : ℕ} {ps : List Step} → Rest k s ps → reachWord site f a k s ≡ 2 → Rest (k - 1) s (waitOne ps)
+    pub rest-wait : {k s : ℕ} {ps : List Step} → Left k s ps → reachWord site f a k s ≡ 2 → Left (k - 1) s (waitOne ps)
     rest-wait {k} {s} {ps} r e =
         let (pos, before) = said-wait k s (r .here) e in
         record {
@@ -84,8 +88,8 @@ module _ (site : Site) (well : WellFormed site) (f : Free) (a : Node) where
           traced = sym (trace-wait site (rowsTo site f a n) n (r .fuel - 1) k s ps (word-row site well f a n k s (r .early) ∙ e)) ∙ fueled r;
         }
 
-    pub rest-move : {k s w : ℕ} {ps : List Step} → Rest k s ps → w ≡ reachWord site f a k s → (b : ByMotion k w)
-        → Rest (k - motionAt site (b .number) .span) (motionAt site (b .number) .from) (move (b .number) ∷ ps)
+    pub rest-move : {k s w : ℕ} {ps : List Step} → Left k s ps → w ≡ reachWord site f a k s → (b : ByMotion site f a k w)
+        → Left (k - motionAt site (b .number) .span) (motionAt site (b .number) .from) (move (b .number) ∷ ps)
     rest-move {k} {s} {w} {ps} r e b =
         record {
           fuel = r .fuel - 1;
@@ -102,7 +106,7 @@ module _ (site : Site) (well : WellFormed site) (f : Free) (a : Node) where
     came-start (by-wait r ok) e = absurd (omega arith)
     came-start (by-move m j same-to same-tick r ok no-wait lowest) e = absurd (omega arith)
 
-    pub rest-done : {k s : ℕ} {ps : List Step} → Rest k s ps → k ≡ 0 → ps ≡ whole
+    pub rest-done : {k s : ℕ} {ps : List Step} → Left k s ps → k ≡ 0 → ps ≡ whole
     rest-done {k} {s} {ps} r e =
         sym (trace-start site (rowsTo site f a n) n (r .fuel - 1) k s ps (word-row site well f a n k s (r .early) ∙ came-start (came-here site well f a k s (r .here)) e))
         ∙ fueled r

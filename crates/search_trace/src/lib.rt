@@ -1,5 +1,6 @@
 // The walk back from the goal: the steps of the route, as a stack of codes.
 use light_write::CODE_LIMIT;
+use site::Sizes;
 ghost use mathlib.Core.Path.{_≡_};
 ghost use mathlib.Core.List.{_∷_};
 ghost use Prim.Native.Nat.{_*_, _≤_, _<_};
@@ -7,8 +8,10 @@ ghost use lib.ListN.{length};
 ghost use Rattle.meaning.specs.Limits.{horizonLimit};
 ghost use Rattle.meaning.specs.Plan.{move};
 ghost use Rattle.meaning.specs.Reach.{waitOne};
-ghost use Rattle.search_sizes.specs.Sizes.{rowWords, motionRows, freeWords, reachedWords};
+ghost use Rattle.site.specs.Ready.{Ready};
+ghost use Rattle.search_sizes.specs.Sizes.{rowWords, motionRows};
 ghost use Rattle.search_site.specs.Arrays.{States, Motions};
+ghost use Rattle.search_site.specs.Decoded.{StatesDecoded, MotionsDecoded};
 ghost use Rattle.light_write.specs.Codes.{codeLimit, stepOfCode, stepsIn};
 ghost use Rattle.search_trace.specs.Turns.{waitInFront, Search, Found};
 
@@ -46,38 +49,49 @@ fn push_move(path: &mut [u16; CODE_LIMIT], count: usize, m: usize) -> usize
 
 // Walks back from the goal at the arrival, and leaves the route's steps in `path`. Answers how many there are.
 pub fn trace_back(
+    file: &[u8],
+    sizes: Sizes,
     states: &[u16],
     motions: &[u16],
-    frees: &[u64],
-    allowed: &[u64],
+    board: &[u8],
     reached: &[u64],
-    n: usize,
-    k: usize,
     tick: usize,
     goal: usize,
     arrival: usize,
     path: &mut [u16; CODE_LIMIT],
 ) -> usize
-    requires { ⌜ States n (now states) × Motions k (now motions) ⌝ }
-    requires { ⌜ (freeWords ≤ length (now frees)) × ((k * rowWords ≤ length (now allowed)) × (reachedWords ≤ length (now reached))) ⌝ }
-    requires { ⌜ (goal < n) × ((x : Search) × Found x n k (now states) (now motions) (now frees) (now allowed) (now reached) tick goal arrival) ⌝ }
-    ensures { λ r. ⌜ ((x : Search)
-        → Found x n k (now (states .entry)) (now (motions .entry)) (now (frees .entry)) (now (allowed .entry)) (now (reached .entry)) tick goal arrival
+    requires { ⌜ Ready (now file) (length (now board)) sizes × (States (sizes .states) (now states) × StatesDecoded (now file) (now states)) ⌝ }
+    requires { ⌜ Motions (sizes .motions) (now motions) × MotionsDecoded (now file) (now motions) ⌝ }
+    requires { ⌜ (goal < sizes .states) × (sizes .states * rowWords ≤ length (now reached)) ⌝ }
+    requires { ⌜ ((x : Search) × Found x (now file) (now board) (now reached) tick goal arrival) ⌝ }
+    ensures { λ r. ⌜ ((x : Search) → Found x (now (file .entry)) (now (board .entry)) (now (reached .entry)) tick goal arrival
         → stepsIn (now (path .exit)) r ≡ x .route .steps) ⌝ }
 {
+    let lists = search_lists::lists_of(motions, sizes.motions, 1);
     let mut s = goal;
     let mut t = arrival;
     let mut count = 0;
     while tick < t {
-        let w = search_back::word_at(states, motions, frees, allowed, reached, n, k, tick, s, t);
+        let w = search_back::word_at(
+            file,
+            sizes,
+            states,
+            motions,
+            &lists,
+            board,
+            reached,
+            tick,
+            s,
+            t,
+        );
         if w == 2 {
             count = push_wait(path, count);
             t -= 1;
         } else {
             let m = w - 3;
             count = push_move(path, count, m);
-            s = search_site::from_of(motions, k, m);
-            let span = search_site::span_of(motions, k, m);
+            s = search_site::from_of(motions, sizes.motions, m);
+            let span = search_site::span_of(motions, sizes.motions, m);
             t -= span;
         }
     }

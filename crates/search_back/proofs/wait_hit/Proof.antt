@@ -1,9 +1,12 @@
 -- `search_back::wait_hit` meets its contract: by cases of its tests.
 -- Assumes nothing.
-use native.Mathlib.Omega.{arith}
 use mathlib.Core.Path.{sym, _∙_}
+use Rattle.meaning.specs.Site.{siteOf}
+use Rattle.meaning.specs.Board.{free}
+use Rattle.plan_steps.proofs.Laws.{known}
+use Rattle.search_back.proofs.HitLaws.{wait-moving, wait-unset, wait-tested}
+use native.Mathlib.Omega.{arith}
 use borrow.Author.Needs.{needs}
-use Rattle.search_back.proofs.WordLaws.{wait-moving, wait-tested}
 use Rattle.search_back.proofs.wait_hit.Statement.{statement}
 use Rattle.search_back.proofs.wait_hit.Tie as tie
 
@@ -12,37 +15,47 @@ speed-of-requires c κs = search needs
 
 returns : tie.Need-returns
 returns c =
-    let a = c .before .before .before .before .before .args in
-    wait-moving (a .states .now) (a .frees .now) (a .reached .now) (a .s) (a .t) (λ e. c .if1 .taken (c .before .speed-of .ensures ∙ e))
-
-cell-of-requires : tie.Need-cell-of-requires
-cell-of-requires c κs = search needs
+    let start = c .before .before .before .before .before .before in
+    let a = start .args in
+    let k = known (start .pre .0 .0) in
+    wait-moving _ _ _ _ _ (λ e. c .if1 .taken (c .before .speed-of .ensures ∙ start .pre .0 .1 .1 (a .s) (omega (arith, k .states)) .1 ∙ e))
 
 sub-is-set : tie.Need-sub-is-set
 sub-is-set c = search needs
 
 is-set-requires : tie.Need-is-set-requires
-is-set-requires c κs = search needs
+is-set-requires c κs =
+    let start = c .before .before .before .before .before .before in
+    let k = known (start .pre .0 .0) in
+    (omega arith, omega (arith, k .short, k .horizon))
 
-sub-is-set-2 : tie.Need-sub-is-set-2
-sub-is-set-2 c = search needs
+cell-of-requires : tie.Need-cell-of-requires
+cell-of-requires c κs = search needs
 
-is-set-requires-2 : tie.Need-is-set-requires-2
-is-set-requires-2 c κs =
-    let b = c .before .before .before .before .before .before .before in
-    (omega (arith, c .before .cell-of .ensures, b .pre .0 .0 .cell (b .args .s) (omega arith)), omega arith)
+sub-run-free : tie.Need-sub-run-free
+sub-run-free c = search needs
 
-is-set-requires-3 : tie.Need-is-set-requires-3
-is-set-requires-3 c κs =
-    let b = c .before .before .before .before .before .before .before .before in
-    (omega (arith, c .before .before .cell-of .ensures, b .pre .0 .0 .cell (b .args .s) (omega arith)), omega arith)
+run-free-requires : tie.Need-run-free-requires
+run-free-requires c κs =
+    let start = c .before .before .before .before .before .before .before .before .before in
+    let a = start .args in
+    let k = known (start .pre .0 .0) in
+    k .row _ _ (omega (arith, c .cell-of .ensures, start .pre .0 .1 .1 (a .s) (omega (arith, k .states)) .0, k .cell (a .s) (omega (arith, k .states)))) (omega (arith, k .horizon))
 
 returns-2 : tie.Need-returns-2
 returns-2 c =
-    let else1 = c .before .before .before .before in
-    let a = else1 .before .before .before .before .before .args in
-    wait-tested (a .states .now) (a .frees .now) (a .reached .now) (a .s) (a .t) _ _ _ _ (sym (else1 .before .speed-of .ensures) ∙ else1 .if1 .left) (c .before .before .before .cell-of .ensures)
-    (c .before .before .is-set .ensures) (c .before .is-set2 .ensures) (c .is-set3 .ensures)
+    let start = c .before .before .before .before .before .before .before .before .before .before in
+    let a = start .args in
+    let k = known (start .pre .0 .0) in
+    let (cell, speed) = start .pre .0 .1 .1 (a .s) (omega (arith, k .states)) in
+    let is-cell = c .before .cell-of .ensures ∙ cell in
+    let set = c .before .before .before in
+    wait-tested (siteOf (a .file .now)) (free (siteOf (a .file .now)) (a .board .now)) (a .reached .now) (a .s) (a .t) _ _ _ (omega arith) (omega (arith, k .horizon))
+    (sym speed ∙ sym (set .before .before .speed-of .ensures) ∙ set .before .if1 .left) is-cell (set .is-set .ensures) (c .before .before .if2 .taken)
+    (c .run-free .ensures (siteOf (a .file .now)) (k .horizon) (omega (arith, is-cell, k .cell (a .s) (omega (arith, k .states)))))
+
+returns-3 : tie.Need-returns-3
+returns-3 c = wait-unset _ _ _ _ _ _ (c .before .is-set .ensures) (c .if2 .left)
 
 pub wait-hit-spec : {M : Type 1} → statement M
 wait-hit-spec =
@@ -50,10 +63,10 @@ wait-hit-spec =
     (tie.spec
     speed-of-requires
     returns
-    cell-of-requires
     sub-is-set
     is-set-requires
-    sub-is-set-2
-    is-set-requires-2
-    is-set-requires-3
-    returns-2)
+    cell-of-requires
+    sub-run-free
+    run-free-requires
+    returns-2
+    returns-3)

@@ -1,44 +1,48 @@
--- `search_fixpoint::spread_all` meets its contract: every state below s was tried.
+-- `search_fixpoint::spread_all` meets its contract: every state whose turn comes before s was tried.
 -- Assumes nothing.
 use Prim.Native.Nat.{_-_, _≤_}
+use native.Mathlib.Omega.{arith}
 use mathlib.Core.Path.{_≡_}
 use lib.ListN.{length}
+use borrow.Author.Needs.{needs}
 use Rattle.search_sizes.specs.Sizes.{stateRows}
-use Rattle.search_ticks.specs.Rows.{has}
-use Rattle.search_step.specs.Sets.{Closed, Going}
-use Rattle.search_lists.specs.Lists.{Listed}
-use Rattle.search_spread.specs.Spread.{Tried, Progress}
-use Rattle.search_spread.proofs.StepsLaws.{going-start, going-then}
+use Rattle.search_step.specs.Sets.{Closed}
+use Rattle.search_spread.specs.Spread.{Stepped, StillTried, Progress}
+use Rattle.search_spread.proofs.StepsLaws.{stepped-start, stepped-then}
 use Rattle.search_spread.proofs.ProgressLaws.{progress-none, progress-then, progress-map}
 use Rattle.search_fixpoint.proofs.TurnLaws.{Quiet, quiet-more, quiet-all}
-use borrow.Author.Needs.{needs}
-use native.Mathlib.Omega.{arith}
 use Rattle.search_fixpoint.proofs.spread_all.Statement.{statement}
 use Rattle.search_fixpoint.proofs.spread_all.Tie as tie
 
 abbrev Inv-loop : tie.InvT-loop
-Inv-loop states motions frees allowed reached₀ lists grown₀ n k turn s₀ reached grown s =
-    (s ≤ stateRows)
-    × Going (Closed n k states motions frees allowed) reached₀ reached
+Inv-loop states motions sweeps tab allowed₀ known₀ reached₀ lists grown₀ cells n k turn block s₀ allowed known reached grown s =
+    (s ≤ n)
+    × Stepped cells n k block states motions sweeps tab known₀ allowed₀ reached₀ known allowed reached
+    (λ g. Closed n k states motions sweeps g block) (StillTried n k states motions sweeps lists block grown₀ reached₀ grown reached)
     × (length grown ≡ stateRows)
-    × (Listed k motions lists → Tried n k states motions frees allowed grown₀ (has reached₀) → Tried n k states motions frees allowed grown (has reached))
-    × Progress reached₀ reached (Quiet turn s grown)
+    × Progress reached₀ reached (Quiet n turn s grown)
 
 abbrev μ-loop : tie.MeasureT-loop
-μ-loop states motions frees allowed reached₀ lists grown₀ n k turn s₀ reached grown s = stateRows - s
+μ-loop states motions sweeps tab allowed₀ known₀ reached₀ lists grown₀ cells n k turn block s₀ allowed known reached grown s = n - s
 
 loop-holds : tie.Need-loop-holds Inv-loop μ-loop
-loop-holds c = (omega arith, going-start _ _, c .before .before .before .before .before .pre .0 .1 .1, λ all tried. tried, progress-none _ (λ x small early. absurd (omega arith)))
+loop-holds c =
+    let start = c .before .before .before .before .before .before in
+    let a = start .args in
+    (omega arith, stepped-start (a .known .now) (a .allowed .now) (a .reached .now) (λ g all tried. tried), start .pre .1 .1 .1 .1, progress-none _ (λ x small early. absurd (omega arith)))
 
 in-turn-requires : tie.Need-in-turn-requires Inv-loop μ-loop
 in-turn-requires c κs = search needs
 
 spread-one-requires : tie.Need-spread-one-requires Inv-loop μ-loop
 spread-one-requires c κs =
-    let turn = c .before .before .before .before in
-    let start = turn .before .before .before .before .before .before in
-    let i = turn .loop .inv in
-    ((start .pre .0 .0, (start .pre .0 .1 .0, (c .before .before .in-turn .ensures .1, i .2))), (omega arith, (omega arith, omega (arith, i .1 .sized))))
+    let after-turn = c .before .before .before .before in
+    let turn = after-turn .before .before in
+    let p = turn .before .before .before .before .before .before .before .pre in
+    let i = turn .loop .inv in (
+      (p .0 .0, (p .0 .1 .0, (p .0 .1 .1 .0, (p .0 .1 .1 .1, after-turn .in-turn .ensures .1)))),
+      (p .1 .0, (omega (arith, i .1 .sized, p .1 .1 .0), (omega (arith, i .1 .kept .sized, p .1 .1 .1 .0), i .2))),
+    )
 
 add-s : tie.Need-add-s Inv-loop μ-loop
 add-s c = search needs
@@ -48,18 +52,33 @@ loop-less c = search needs
 
 loop-again : tie.Need-loop-again Inv-loop μ-loop
 loop-again c =
-    let turn = c .before .before .before .before .before .before .before in
+    let after-spread = c .before .before .before .before in
+    let after-turn = after-spread .before .before .before .before .before in
+    let inside = after-turn .before in
+    let turn = inside .before in
+    let a = turn .before .before .before .before .before .before .before .args in
     let i = turn .loop .inv in
-    let e = c .before .before .spread-one .ensures in
-    (omega arith, going-then _ _ _ _ (i .1) (e .0), e .1 .0, λ all tried. e .1 .1 .0 all (i .3 all tried), progress-then (λ p q. quiet-more _ _ (turn .before .before .before .before .before .before .args .turn) (turn .loop .s) _ (omega arith) (c .before .before .before .before .before .in-turn .ensures .0) p q) (i .4) (e .1 .1 .1))
+    let e = after-spread .spread-one .ensures in (
+      omega arith,
+      stepped-then (λ g before now all tried. now all (before all tried)) (i .1) (e .0),
+      e .1 .0,
+      progress-then
+          (λ before now. quiet-more (turn .loop .grown) (after-spread .spread-one .last .1 .1 .1 .1 .1 .1 .1 .1 .0) (a .n) (a .turn) (turn .loop .s) _ (inside .loop-test .taken) (after-turn .in-turn .ensures .0) before now)
+          (i .3) (e .1 .1),
+    )
 
 same-length : tie.Need-same-length Inv-loop μ-loop
-same-length c = search needs
+same-length c = c .before .loop .inv .1 .sized
+
+same-length-2 : tie.Need-same-length-2 Inv-loop μ-loop
+same-length-2 c = c .before .loop .inv .1 .kept .sized
 
 returns : tie.Need-returns Inv-loop μ-loop
 returns c =
-    let i = c .before .loop .inv in
-    (i .1, (i .2, (i .3, progress-map (quiet-all (c .before .loop .grown) (c .before .before .before .before .before .before .before .args .turn) (c .before .loop .s) (omega arith)) (i .4))))
+    let turn = c .before in
+    let a = turn .before .before .before .before .before .before .before .args in
+    let i = turn .loop .inv in
+    (i .1, (i .2, progress-map (quiet-all (turn .loop .grown) (a .n) (a .turn) (turn .loop .s) (omega arith)) (i .3)))
 
 pub spread-all-spec : {M : Type 1} → statement M
 spread-all-spec =
@@ -74,4 +93,5 @@ spread-all-spec =
     loop-less
     loop-again
     same-length
+    same-length-2
     returns)

@@ -1,12 +1,11 @@
 -- `search_free::bytes_union` meets its contract: where no bit is set, each byte below i is 0.
 -- Assumes nothing.
 use Prim.Native.Nat.{_-_, _≤_}
-use mathlib.Core.Path.{_≡_}
-use Rattle.search_ticks.specs.Rows.{ZeroFrom}
-use Rattle.search_ticks.proofs.SetLaws.{zeros-none, zeros-more}
-use Rattle.search_free.proofs.FreeLaws.{zero-all}
-use borrow.Author.Needs.{needs}
 use native.Mathlib.Omega.{arith}
+use mathlib.Core.Path.{_≡_}
+use borrow.Author.Needs.{needs}
+use Rattle.search_ticks.specs.Rows.{ZeroFrom}
+use Rattle.search_free.proofs.FreeLaws.{zeros-none, zeros-more, zero-all}
 use Rattle.search_free.proofs.bytes_union.Statement.{statement}
 use Rattle.search_free.proofs.bytes_union.Tie as tie
 

@@ -1,46 +1,59 @@
--- `search_runs::fill_runs` meets its contract: the rows below row r of the next level are done.
+-- `search_runs::fill_runs` meets its contract: the tables below t are done.
 -- Assumes nothing.
-use Prim.Native.Nat.{_+_, _-_, _≤_}
-use Rattle.search_sizes.specs.Sizes.{levelRows, doubledRows}
-use Rattle.search_runs.specs.Runs.{Runs}
-use Rattle.search_runs.proofs.RunLaws.{runs-double, runs-all}
+use Prim.Native.Nat.{ℕ, _+_, _-_, _≤_}
+use native.Mathlib.Nat.{mul-le-mul-right}
+use mathlib.Core.Path.{_≡_, refl, _∙_}
+use mathlib.Core.Bool.{Bool}
+use lib.ListN.{length}
+use Rattle.search_runs.specs.Runs.{Halves, FirstTable, Tables}
+use Rattle.search_runs.proofs.TableLaws.{first-table}
 use borrow.Author.Needs.{needs}
 use native.Mathlib.Omega.{arith}
 use Rattle.search_runs.proofs.fill_runs.Statement.{statement}
 use Rattle.search_runs.proofs.fill_runs.Tie as tie
 
 abbrev Inv-loop : tie.InvT-loop
-Inv-loop runs₀ f r₀ runs r = (r ≤ doubledRows) × Runs f runs (r + levelRows)
+Inv-loop tab₀ cells tables t₀ tab t =
+    ((1 ≤ t) × (t ≤ tables))
+    × ((length tab ≡ length tab₀)
+    × ((g : ℕ → ℕ → Bool) (b : ℕ) → Halves g cells tables b tab₀ → FirstTable g cells b tab₀ → Halves g cells tables b tab × Tables g cells t b tab))
 
 abbrev μ-loop : tie.MeasureT-loop
-μ-loop runs₀ f r₀ runs r = doubledRows - r
-
-single-runs-requires : tie.Need-single-runs-requires Inv-loop μ-loop
-single-runs-requires c κs = search needs
+μ-loop tab₀ cells tables t₀ tab t = tables - t
 
 loop-holds : tie.Need-loop-holds Inv-loop μ-loop
-loop-holds c = (omega arith, c .single-runs .ensures)
+loop-holds c = ((omega arith, omega arith), (refl, λ g b h f. (h, first-table g _ _ b _ (c .before .pre .0 .0) h f)))
 
-size-of-requires : tie.Need-size-of-requires Inv-loop μ-loop
-size-of-requires c κs = search needs
+longer-runs-requires : tie.Need-longer-runs-requires Inv-loop μ-loop
+longer-runs-requires c κs =
+    let at = c .before .before in
+    let a = at .before .before .args in (
+      (omega arith, (omega arith, omega (arith, at .loop .inv .1 .0, mul-le-mul-right {m = at .loop .t + 1} {n = a .tables} (a .cells) (omega arith)))),
+      omega (arith, at .loop .inv .1 .0),
+    )
 
-double-row-requires : tie.Need-double-row-requires Inv-loop μ-loop
-double-row-requires c κs =
-    let runs = c .before .before .before .loop .inv .1 in
-    let size = c .size-of .ensures .1 .1 in
-    (omega (arith, runs .sized), (omega arith, (omega arith, runs .fits)))
-
-add-r : tie.Need-add-r Inv-loop μ-loop
-add-r c = search needs
+add-t : tie.Need-add-t Inv-loop μ-loop
+add-t c = search needs
 
 loop-less : tie.Need-loop-less Inv-loop μ-loop
 loop-less c = search needs
 
 loop-again : tie.Need-loop-again Inv-loop μ-loop
-loop-again c = (omega arith, runs-double _ _ _ _ _ (omega arith) (c .before .size-of .ensures .0) (c .before .size-of .ensures .1 .1) (c .before .before .before .before .loop .inv .1) (c .double-row .ensures))
+loop-again c =
+    let turn = c .before .before .before .before .before in
+    let next = c .before .before .longer-runs .ensures in (
+      (omega arith, omega arith),
+      (
+        next .0 ∙ turn .loop .inv .1 .0,
+        λ g b h f. let w = turn .loop .inv .1 .1 g b h f in next .1 g _ b (omega arith) (w .0) (w .1),
+      ),
+    )
+
+same-length : tie.Need-same-length Inv-loop μ-loop
+same-length c = c .before .loop .inv .1 .0
 
 returns : tie.Need-returns Inv-loop μ-loop
-returns c = runs-all _ _ _ _ (omega arith) (omega arith) (c .before .loop .inv .1)
+returns c = (c .before .loop .inv .1 .0, λ g b h f k x i a. c .before .loop .inv .1 .1 g b h f .1 k x i (omega arith))
 
 pub fill-runs-spec : {M : Type 1} → statement M
 fill-runs-spec =
@@ -48,11 +61,10 @@ fill-runs-spec =
     (tie.spec
     Inv-loop
     μ-loop
-    single-runs-requires
     loop-holds
-    size-of-requires
-    double-row-requires
-    add-r
+    longer-runs-requires
+    add-t
     loop-less
     loop-again
+    same-length
     returns)

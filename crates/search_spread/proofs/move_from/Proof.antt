@@ -1,116 +1,153 @@
 -- `search_spread::move_from` meets its contract: the motions of the list before m are closed, unless growth of s itself is noted.
 -- Assumes nothing.
-use Prim.Native.Nat.{_-_}
+use Prim.Native.Nat.{ℕ, _-_, _<_}
 use native.Mathlib.Omega.{arith}
-use mathlib.Core.Path.{_≡_, refl, _∙_}
-use lib.ListN.{length, length-set}
+use mathlib.Core.Path.{_∙_}
+use mathlib.Core.Bool.{Bool}
+use lib.ListN.{length}
 use Rattle.search_sizes.specs.Sizes.{stateRows}
-use Rattle.search_step.specs.Sets.{MoveClosed, Below, Going}
-use Rattle.search_spread.specs.Spread.{Noted, Progress, Unnoted}
-use Rattle.search_spread.proofs.WalkLaws.{Walked, noted-start, noted-more, walked-start, walked-more, walked-last, walked-end}
-use Rattle.search_lists.proofs.ListLaws.{listed-from}
-use Rattle.search_spread.proofs.StepsLaws.{going-start, going-one}
-use Rattle.search_spread.proofs.ProgressLaws.{progress-none, progress-then, progress-move}
+use Rattle.search_ticks.specs.Rows.{has}
+use Rattle.search_step.specs.Sets.{MoveClosed, RowSet}
+use Rattle.search_spread.specs.Spread.{MovesTried}
+use Rattle.search_spread.proofs.WalkLaws.{note, Walked, walked-start, walked-more, walked-last, walked-end, Walk, walk-start, walk-more, walk-end}
 use Rattle.search_spread.proofs.move_from.Statement.{statement}
 use Rattle.search_spread.proofs.move_from.Tie as tie
 
 abbrev Inv-loop : tie.InvT-loop
-Inv-loop motions allowed reached₀ lists grown₀ k s m₀ reached grown m =
-    Going (Below (MoveClosed motions allowed) k) reached₀ reached
-    × ((length grown ≡ stateRows) × Noted reached₀ grown₀ reached grown)
-    × Walked k motions allowed lists s reached grown m
-    × Progress reached₀ reached (Unnoted grown₀ grown)
+Inv-loop states motions sweeps tab allowed₀ known₀ reached₀ lists grown₀ cells n k s block m₀ allowed known reached grown m =
+    Walk cells n k block states motions sweeps tab known₀ allowed₀ reached₀ grown₀ known allowed reached grown (Walked k motions sweeps lists block s reached grown m)
 
 abbrev μ-loop : tie.MeasureT-loop
-μ-loop motions allowed reached₀ lists grown₀ k s m₀ reached grown m = k - m
+μ-loop states motions sweeps tab allowed₀ known₀ reached₀ lists grown₀ cells n k s block m₀ allowed known reached grown m = k - m
 
 add-listed-at : tie.Need-add-listed-at Inv-loop μ-loop
-add-listed-at c = omega arith
+add-listed-at c = omega (arith, c .before .before .before .before .before .before .pre .0 .0 .few)
 
 listed-at-requires : tie.Need-listed-at-requires Inv-loop μ-loop
-listed-at-requires c κs = omega arith
+listed-at-requires c κs = omega (arith, c .before .before .before .before .before .before .pre .0 .0 .few)
 
 loop-holds : tie.Need-loop-holds Inv-loop μ-loop
 loop-holds c =
-    let start = c .before .before .before .before in
+    let start = c .before .before .before .before .before .before .before in
     let a = start .args in
-    (going-start _ _, (start .pre .0 .1 .1, noted-start (a .reached .now) (a .grown .now)), walked-start (a .k) (a .motions .now) (a .allowed .now) (a .lists .now) (a .s) (a .reached .now) (a .grown .now) (c .listed-at .result) (c .listed-at .ensures), progress-none _ (λ x. refl))
+    walk-start (a .known .now) (a .allowed .now) (a .reached .now) (a .grown .now) (start .pre .1 .1 .1 .1)
+    (λ g. walked-start (a .k) (a .motions .now) (a .sweeps .now) (a .lists .now) (a .block) (a .s) g (a .reached .now) (a .grown .now) (c .listed-at .result) (c .listed-at .ensures))
+
+abbrev entry : tie.At-loop Inv-loop μ-loop → tie.Start Inv-loop μ-loop
+entry c = c .before .before .before .before .before .before .before .before
 
 move-one-requires : tie.Need-move-one-requires Inv-loop μ-loop
 move-one-requires c κs =
-    let turn = c .before .before in
-    let start = turn .before .before .before .before .before in
-    ((start .pre .0 .0, c .before .loop-test .taken), (omega arith, omega (arith, turn .loop .inv .0 .sized)))
+    let turn = c .before .before .before .before in
+    let p = entry turn .pre in
+    let steps = turn .loop .inv .steps in (
+      (p .0 .0, (p .0 .1 .0, (p .0 .1 .1 .0, (p .0 .1 .1 .1 .0, c .before .before .before .loop-test .taken)))),
+      (p .1 .0, (omega (arith, steps .sized, p .1 .1 .0), omega (arith, steps .kept .sized, p .1 .1 .1 .0))),
+    )
 
 to-of-requires : tie.Need-to-of-requires Inv-loop μ-loop
-to-of-requires c κs = (c .before .before .before .before .before .before .before .before .before .before .pre .0 .0, omega arith)
+to-of-requires c κs =
+    let inside = c .before .before .before .before .before .before .before .before in
+    (entry (inside .before) .pre .0 .1 .1 .0, inside .loop-test .taken)
+
+-- the state to which the motion leads
+to-known : (c : tie.After-to-of Inv-loop μ-loop) → c .to-of .result < stateRows
+to-known c =
+    let turn = c .before .before .before .before .before .before .before .before .before .before in
+    omega (arith, c .to-of .ensures, entry turn .pre .0 .1 .1 .0 .to (turn .loop .m) (c .before .before .before .before .before .before .before .before .before .loop-test .taken))
 
 mul-grown : tie.Need-mul-grown Inv-loop μ-loop
-mul-grown c = let turn = c .before .before .before .before .before .before in omega (arith, c .to-of .ensures, turn .before .before .before .before .before .pre .0 .0 .to (turn .loop .m) (omega arith))
+mul-grown c = omega (arith, to-known c)
 
 element-copy-out-grown : tie.Need-element-copy-out-grown Inv-loop μ-loop
-element-copy-out-grown c = let turn = c .before .before .before .before .before .before in omega (arith, c .to-of .ensures, turn .before .before .before .before .before .pre .0 .0 .to (turn .loop .m) (omega arith))
+element-copy-out-grown c = omega (arith, to-known c)
 
 mul-grown-2 : tie.Need-mul-grown-2 Inv-loop μ-loop
-mul-grown-2 c = let turn = c .before .before .before .before .before .before .before in omega (arith, c .before .to-of .ensures, turn .before .before .before .before .before .pre .0 .0 .to (turn .loop .m) (omega arith))
+mul-grown-2 c = omega (arith, to-known (c .before))
 
 element-write-grown : tie.Need-element-write-grown Inv-loop μ-loop
-element-write-grown c = let turn = c .before .before .before .before .before .before .before in omega (arith, c .before .to-of .ensures, turn .before .before .before .before .before .pre .0 .0 .to (turn .loop .m) (omega arith))
+element-write-grown c = omega (arith, to-known (c .before))
 
 listed-at-requires-2 : tie.Need-listed-at-requires-2 Inv-loop μ-loop
-listed-at-requires-2 c κs = omega arith
+listed-at-requires-2 c κs =
+    let inside = c .before .before .before .before .before .before .before .before .before .before in
+    omega (arith, inside .loop-test .taken, entry (inside .before) .pre .0 .1 .1 .0 .few)
+
+abbrev inside-of : tie.After-listed-at2 Inv-loop μ-loop → tie.In-loop Inv-loop μ-loop
+inside-of c = c .before .before .before .before .before .before .before .before .before .before .before
+
+abbrev after-move : tie.After-listed-at2 Inv-loop μ-loop → tie.After-move-one Inv-loop μ-loop
+after-move c = c .before .before .before .before .before .before .before
+
+-- one turn, whatever follows for the motions of the list
+turned : (c : tie.After-listed-at2 Inv-loop μ-loop) (Q : (ℕ → ℕ → Bool) → Type 0)
+    → let turn = inside-of c .before in
+    let a = entry turn .args in
+    let moved = after-move c .move-one in
+    let l′ = moved .last .1 .1 .1 .1 .1 .1 .0 in
+    let to = c .before .before .to-of .result in
+    ((g : ℕ → ℕ → Bool) → RowSet (a .block) to (turn .loop .reached) l′ (moved .result) → to < length (turn .loop .grown)
+    → MoveClosed (a .motions .now) (a .sweeps .now) g (a .block) (turn .loop .m) (has l′)
+    → Walked (a .k) (a .motions .now) (a .sweeps .now) (a .lists .now) (a .block) (a .s) (turn .loop .reached) (turn .loop .grown) (turn .loop .m) g → Q g)
+    → Walk (a .cells) (a .n) (a .k) (a .block) (a .states .now) (a .motions .now) (a .sweeps .now) (a .tab .now) (a .known .now) (a .allowed .now) (a .reached .now) (a .grown .now)
+    (moved .last .1 .1 .1 .1 .1 .0) (moved .last .1 .1 .1 .1 .0) l′ (note (turn .loop .grown) to (moved .result)) Q
+turned c Q f =
+    let turn = inside-of c .before in
+    let moved = after-move c .move-one in
+    walk-more (moved .last .1 .1 .1 .1 .1 .0) (moved .last .1 .1 .1 .1 .0) (moved .last .1 .1 .1 .1 .1 .1 .0) (turn .loop .m) (c .before .before .to-of .result) (moved .result)
+    (inside-of c .loop-test .taken) (c .before .before .to-of .ensures) (to-known (c .before .before))
+    (moved .ensures .0) (moved .ensures .1 .0) (moved .ensures .1 .1) f (turn .loop .inv)
 
 same-length : tie.Need-same-length Inv-loop μ-loop
-same-length c = omega arith
+same-length c = after-move (c .before) .move-one .ensures .1 .0 ∙ inside-of (c .before) .before .loop .inv .steps .sized
+
+same-length-2 : tie.Need-same-length-2 Inv-loop μ-loop
+same-length-2 c = after-move (c .before) .move-one .ensures .0 .kept .sized ∙ inside-of (c .before) .before .loop .inv .steps .kept .sized
 
 returns : tie.Need-returns Inv-loop μ-loop
 returns c =
-    let turn = c .before .before .before .before .before .before .before .before .before in
-    let start = turn .before .before .before .before .before in
-    let a = start .args in
-    let m = turn .loop .m in
-    let taken = c .before .before .before .before .before .before .before .before .loop-test .taken in
-    let moved = c .before .before .before .before .before .before .move-one in
-    let to = c .before .before .before .to-of in
-    let i = turn .loop .inv in (
-      going-one (MoveClosed (a .motions .now) (a .allowed .now)) (a .k) m _ _ _ _ taken (i .0) (moved .ensures .0),
-      (
-        (simp length-set (i .1 .0), noted-more (a .k) (a .motions .now) (a .allowed .now) (a .lists .now) (a .s) (turn .loop .reached) _ (turn .loop .grown) m (moved .result) (to .result) (i .1 .0) (to .ensures) (omega (arith, to .ensures, start .pre .0 .0 .to m taken)) (moved .ensures .0) (moved .ensures .1) (a .reached .now) (a .grown .now) (i .1 .1)),
-        (
-          λ all e x h from. walked-last (a .k) (a .motions .now) (a .allowed .now) (a .lists .now) (a .s) (turn .loop .reached) _ (turn .loop .grown) m (moved .result) (to .result) (i .1 .0) (to .ensures) (omega (arith, to .ensures, start .pre .0 .0 .to m taken)) (moved .ensures .0) (moved .ensures .1) (omega arith) (omega (arith, c .before .listed-at2 .ensures)) (i .2) x (listed-from (a .k) (a .motions .now) (a .lists .now) (a .s) all x h from) from e,
-          progress-then (λ p q x. q x ∙ p x) (i .3) (progress-move _ _ (turn .loop .grown) (moved .result) (to .result) (omega (arith, i .1 .0, to .ensures, start .pre .0 .0 .to m taken)) (moved .ensures .0 .grown)),
-        ),
-      ),
-    )
+    let turn = inside-of (c .before) .before in
+    let a = entry turn .args in
+    let p = entry turn .pre in
+    let moved = after-move (c .before) .move-one in
+    let l′ = moved .last .1 .1 .1 .1 .1 .1 .0 in
+    let to = c .before .before .before .to-of .result in
+    let w = turned (c .before) (MovesTried (a .k) (a .motions .now) (a .sweeps .now) (a .lists .now) (a .block) (a .s) l′ (note (turn .loop .grown) to (moved .result)))
+    (λ g row room closed.
+    walked-last (a .k) (a .motions .now) (a .sweeps .now) (a .lists .now) (a .block) (a .s) g (turn .loop .reached) l′ (turn .loop .grown)
+    (turn .loop .m) (moved .result) to (p .1 .0 .1 .1) (omega (arith, p .0 .0 .few, p .0 .1 .1 .1 .1)) room row closed
+    (omega (arith, c .if1 .taken, c .before .listed-at2 .ensures))) in
+    (w .steps, ((w .long, w .noted-growth), w .progress))
 
 loop-less : tie.Need-loop-less Inv-loop μ-loop
 loop-less c = omega arith
 
 loop-again : tie.Need-loop-again Inv-loop μ-loop
 loop-again c =
-    let turn = c .before .before .before .before .before .before .before .before .before in
-    let start = turn .before .before .before .before .before in
-    let a = start .args in
-    let m = turn .loop .m in
-    let taken = c .before .before .before .before .before .before .before .before .loop-test .taken in
-    let moved = c .before .before .before .before .before .before .move-one in
-    let to = c .before .before .before .to-of in
-    let i = turn .loop .inv in (
-      going-one (MoveClosed (a .motions .now) (a .allowed .now)) (a .k) m _ _ _ _ taken (i .0) (moved .ensures .0),
-      (simp length-set (i .1 .0), noted-more (a .k) (a .motions .now) (a .allowed .now) (a .lists .now) (a .s) (turn .loop .reached) _ (turn .loop .grown) m (moved .result) (to .result) (i .1 .0) (to .ensures) (omega (arith, to .ensures, start .pre .0 .0 .to m taken)) (moved .ensures .0) (moved .ensures .1) (a .reached .now) (a .grown .now) (i .1 .1)),
-      walked-more (a .k) (a .motions .now) (a .allowed .now) (a .lists .now) (a .s) (turn .loop .reached) _ (turn .loop .grown) m (moved .result) (to .result) (i .1 .0) (to .ensures) (omega (arith, to .ensures, start .pre .0 .0 .to m taken)) (moved .ensures .0) (moved .ensures .1) (c .before .listed-at2 .result) (omega arith) (c .before .listed-at2 .ensures) (i .2),
-      progress-then (λ p q x. q x ∙ p x) (i .3) (progress-move _ _ (turn .loop .grown) (moved .result) (to .result) (omega (arith, i .1 .0, to .ensures, start .pre .0 .0 .to m taken)) (moved .ensures .0 .grown)),
-    )
+    let turn = inside-of (c .before) .before in
+    let a = entry turn .args in
+    let p = entry turn .pre in
+    let moved = after-move (c .before) .move-one in
+    let l′ = moved .last .1 .1 .1 .1 .1 .1 .0 in
+    let to = c .before .before .before .to-of .result in
+    turned (c .before) _
+    (λ g row room closed.
+    walked-more (a .k) (a .motions .now) (a .sweeps .now) (a .lists .now) (a .block) (a .s) g (turn .loop .reached) l′ (turn .loop .grown)
+    (turn .loop .m) (moved .result) to (p .1 .0 .1 .1) (omega (arith, p .0 .0 .few, p .0 .1 .1 .1 .1)) room row closed
+    (c .before .listed-at2 .result) (c .before .listed-at2 .ensures))
 
-same-length-2 : tie.Need-same-length-2 Inv-loop μ-loop
-same-length-2 c = omega arith
+same-length-3 : tie.Need-same-length-3 Inv-loop μ-loop
+same-length-3 c = c .before .loop .inv .steps .sized
+
+same-length-4 : tie.Need-same-length-4 Inv-loop μ-loop
+same-length-4 c = c .before .loop .inv .steps .kept .sized
 
 returns-2 : tie.Need-returns-2 Inv-loop μ-loop
 returns-2 c =
     let turn = c .before in
-    let a = turn .before .before .before .before .before .args in
-    let i = turn .loop .inv in
-    (i .0, (i .1, (λ all e x h from. walked-end (a .k) (a .motions .now) (a .allowed .now) (a .lists .now) (a .s) (turn .loop .reached) (turn .loop .grown) (turn .loop .m) (omega arith) (i .2) x (listed-from (a .k) (a .motions .now) (a .lists .now) (a .s) all x h from) from e, i .3)))
+    let a = entry turn .args in
+    let w = walk-end (λ g. walked-end (a .k) (a .motions .now) (a .sweeps .now) (a .lists .now) (a .block) (a .s) g (turn .loop .reached) (turn .loop .grown) (turn .loop .m) (omega arith)) (turn .loop .inv) in
+    (w .steps, ((w .long, w .noted-growth), w .progress))
 
 pub move-from-spec : {M : Type 1} → statement M
 move-from-spec =
@@ -129,8 +166,10 @@ move-from-spec =
     element-write-grown
     listed-at-requires-2
     same-length
+    same-length-2
     returns
     loop-less
     loop-again
-    same-length-2
+    same-length-3
+    same-length-4
     returns-2)

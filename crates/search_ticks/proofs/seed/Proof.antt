@@ -13,6 +13,9 @@ mul-place c = omega arith
 add-place : tie.Need-add-place
 add-place c = omega arith
 
+add-place-2 : tie.Need-add-place-2
+add-place-2 c = omega arith
+
 mul-l : tie.Need-mul-l
 mul-l c = omega arith
 
@@ -31,7 +34,7 @@ slice-write-l c = omega arith
 same-length : tie.Need-same-length
 same-length c =
     let b = c .before .args in
-    length-set {A = ℕ} (b .l .now) (b .s * 16 + b .t / 64) _
+    length-set {A = ℕ} (b .l .now) (b .s * 20 + 4 + b .t / 64) _
 
 returns : tie.Need-returns
 returns c =
@@ -44,6 +47,7 @@ seed-spec =
     (tie.spec
     mul-place
     add-place
+    add-place-2
     mul-l
     slice-read-l
     shl-l
