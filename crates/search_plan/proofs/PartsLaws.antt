@@ -3,7 +3,7 @@
 use Prim.Native.Nat.{ℕ, suc, _+_, _*_, _-_, _/_, _%_, _≤_, _<_}
 use native.Mathlib.Nat.{mul-le-mul, mul-le-mul-right, suc-mul}
 use native.Mathlib.Omega.{arith}
-use mathlib.Core.Path.{_≡_, refl, sym, ap, _∙_, subst}
+use mathlib.Core.Path.{_≡_, sym, ap, _∙_, subst}
 use mathlib.Core.Bool.{Bool, true, false, cond, _&&_, false≢true}
 use mathlib.Core.Option.{none, some}
 use mathlib.Core.List.{List}
@@ -34,6 +34,7 @@ use Rattle.search_site.specs.Decoded.{SweepsIn, StatesDecoded, MotionsDecoded}
 use Rattle.search_site.proofs.DecodedLaws.{well, states-fit, cells-below, motions-fit, motions-lead, sweeps-fit, decoded}
 use Rattle.search_ends.specs.Ends.{reachedAt, endsOn, First}
 use Rattle.search_reach.specs.Explored.{InArrays, Space, EndsRight}
+use Rattle.search_reach.proofs.BlockLaws.{never-true}
 use Rattle.search_trace.specs.Turns.{Search, Found}
 use Rattle.search_trace.proofs.FoundLaws.{routeAfter, route-there, route-nowhere, arrival-found}
 use Rattle.search_plan.specs.declared.Traced.the-variants.{Steps, Missing}
@@ -171,14 +172,10 @@ module _ (file board : List ℕ) (l : Sizes) (trip : Trip) (q : Asked file l (le
       (record {
         above = omega (arith, r .in-time);
         within = omega arith;
-        none = λ t lo hi. not-true _ (λ e. never t e (omega arith));
+        none = λ t lo hi. never-true _ (λ e. never t e (omega arith));
         hit = λ h. absurd (omega arith);
       })
       (omega arith)
-    where
-      not-true : (b : Bool) → (b ≡ true → ⊥) → b ≡ false
-      not-true true h = absurd (h refl)
-      not-true false h = refl
 
   -- the start's cell is held
   pub start-held : (b : Bool) → b ≡ f (cellOf site start) tick → b ≡ false → (path : List ℕ) → Planned (routeOn file board trip) path Missing

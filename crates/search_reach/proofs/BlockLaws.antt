@@ -27,6 +27,12 @@ use Rattle.search_step.specs.Sets.{Room, Right}
 use Rattle.search_reach.specs.Explored.{freeFrom, InArrays, Space}
 use Rattle.search_reach.proofs.RightLaws.{ends-free}
 
+-- ---- a test that never holds
+
+pub never-true : (b : Bool) → (b ≡ true → ⊥) → b ≡ false
+never-true true h = absurd (h refl)
+never-true false h = refl
+
 -- ---- rows of the tables
 
 -- the row of a cell in a table is one of its rows
@@ -72,15 +78,11 @@ pub blank-ahead : (f : Free) (cells tables first : ℕ) (tab : List ℕ) → ((j
 blank-ahead f cells tables first tab blank t c i h lt small =
     blank _ ∙ sym (none-early (runLength t) (run-pos t))
   where
-    not-true : (b : Bool) → (b ≡ true → ⊥) → b ≡ false
-    not-true true h = absurd (h refl)
-    not-true false h = refl
-
     before : leb (blockStart first) (blockTicks * first + i) ≡ false
     before = lt-leb (blockStart first) (blockTicks * first + i) (omega arith)
 
     none-early : (n : ℕ) → 1 ≤ n → ended (freeFrom f first c) n (blockTicks * first + i) ≡ false
-    none-early n pos = not-true _ (λ e.
+    none-early n pos = never-true _ (λ e.
         let now = ended-at (freeFrom f first c) n (blockTicks * first + i) 0 e pos in
         let same : blockTicks * first + i - 0 ≡ blockTicks * first + i = omega arith in
         false≢true (sym before ∙ and-left _ _ (subst (λ (u : ℕ). freeFrom f first c u ≡ true) same now)))

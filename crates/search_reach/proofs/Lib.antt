@@ -1,4 +1,4 @@
 pub mod ArriveLaws
 pub mod RightLaws
-mod BlockLaws
+pub mod BlockLaws
 mod LoopLaws

@@ -19,6 +19,7 @@ use Rattle.search_ticks.specs.Rows.{at, has, Seeded}
 use Rattle.search_runs.specs.Runs.{Tables, Ahead}
 use Rattle.search_site.specs.Arrays.{spanAt}
 use Rattle.search_step.specs.Sets.{Pairs, Closed, Inside, Within, Kept}
+use Rattle.search_step.proofs.StepLaws.{or-right}
 use Rattle.search_ends.specs.Ends.{reachedAt, endsOn, endsIn, First}
 use Rattle.search_reach.specs.Explored.{freeFrom, InArrays, EndsRight}
 use Rattle.search_reach.proofs.BlockLaws.{facts, tables-ahead, blank-ahead}
@@ -80,10 +81,6 @@ module _ (file board : List ℕ) (l : Sizes) (st mv ends : List ℕ) (tables sta
             rw (same, same-tick) begun;
       }
     where
-      or-right : (x y : Bool) → y ≡ true → (x || y) ≡ true
-      or-right true y e = refl
-      or-right false y e = e
-
       or-only : (x y : Bool) → x ≡ false → (x || y) ≡ true → y ≡ true
       or-only true y e h = absurd (false≢true (sym e))
       or-only false y e h = h

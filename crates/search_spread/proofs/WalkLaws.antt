@@ -17,7 +17,8 @@ use Rattle.search_ticks.proofs.BitLaws.{or-zero}
 use Rattle.search_site.specs.Arrays.{fromAt, toAt, spanAt, Motions}
 use Rattle.search_step.specs.Sets.{WaitClosed, MoveClosed, Below, Closed, Inside, Within, RowSet, Right, Ready}
 use Rattle.search_lists.specs.Lists.{Chain}
-use Rattle.search_lists.proofs.ListLaws.{chain-case, listed-on, end-from}
+use Rattle.search_lists.proofs.ListLaws.{listed-on, end-from}
+use Rattle.search_lists.proofs.WalkLaws.{Along, along-start, along-next, along-last, along-end}
 use Rattle.search_spread.specs.Spread.{Stepped, MovesClosed, MovesTried, Tried, StillTried, Noted, Progress, Unnoted}
 use Rattle.search_spread.proofs.StepsLaws.{stepped-start, stepped-map, stepped-then}
 use Rattle.search_spread.proofs.ProgressLaws.{progress-none, progress-then, progress-move}
@@ -104,60 +105,44 @@ noted-one b l l′ noted to d room moved x h e =
 
 -- ---- the motions of one list
 
--- closed, or still to come
-pub data Either (A B : Type 0) : Type 0 where
-  done : A → Either A B
-  later : B → Either A B
+-- motion m is closed where no growth of s is noted
+abbrev Done : List ℕ → List ℕ → ℕ → ℕ → (ℕ → ℕ → Bool) → List ℕ → List ℕ → ℕ → Type 0
+Done mv sw b s g l noted m = getD noted s 0 ≡ 0 → MoveClosed mv sw g b m (has l)
 
--- the motions of the list of s, of which a is the next, are closed where no growth of s is noted
+-- the motions of the list of s before a are done
 abbrev pub Walked : ℕ → List ℕ → List ℕ → List ℕ → ℕ → ℕ → List ℕ → List ℕ → ℕ → (ℕ → ℕ → Bool) → Type 0
 Walked k mv sw ls b s l noted a g =
-    (m : ℕ) → Chain ls k (getD ls (motionRows + s) 0) m → fromAt mv m ≡ s → Either (getD noted s 0 ≡ 0 → MoveClosed mv sw g b m (has l)) (Chain ls k a m)
+    (m : ℕ) → Chain ls k (getD ls (motionRows + s) 0) m → fromAt mv m ≡ s → Along ls k (Done mv sw b s g l noted) a m
 
 module _ (k : ℕ) (mv sw ls : List ℕ) (b s : ℕ) (g : ℕ → ℕ → Bool) where
   pub walked-start : (l noted : List ℕ) (a : ℕ) → a ≡ getD ls (motionRows + s) 0 → Walked k mv sw ls b s l noted a g
-  walked-start l noted a e m c from = later (subst (λ (x : ℕ). Chain ls k x m) (sym e) c)
+  walked-start l noted a e m c from = along-start ls k (Done mv sw b s g l noted) (getD ls (motionRows + s) 0) a m e c
 
   -- what is on no list is none of the motions of s
-  walked-all : (l noted : List ℕ) → ((m : ℕ) → Chain ls k (getD ls (motionRows + s) 0) m → fromAt mv m ≡ s → getD noted s 0 ≡ 0 → MoveClosed mv sw g b m (has l))
+  walked-all : (l noted : List ℕ) → ((m : ℕ) → Chain ls k (getD ls (motionRows + s) 0) m → fromAt mv m ≡ s → Done mv sw b s g l noted m)
       → MovesTried k mv sw ls b s l noted g
   walked-all l noted each all e m lt from = each m (listed-on 0 k mv ls s all m lt (end-from mv m ∙ from)) from e
 
   -- the list is at its end
   pub walked-end : (l noted : List ℕ) (a : ℕ) → k ≤ a → Walked k mv sw ls b s l noted a g → MovesTried k mv sw ls b s l noted g
-  walked-end l noted a past w = walked-all l noted (λ m c from. go m (w m c from))
-    where
-      go : (m : ℕ) → Either (getD noted s 0 ≡ 0 → MoveClosed mv sw g b m (has l)) (Chain ls k a m) → getD noted s 0 ≡ 0 → MoveClosed mv sw g b m (has l)
-      go m (done x) = x
-      go m (later x) = chain-case x (λ same lt. absurd (omega arith)) (λ lt up rest. absurd (omega arith))
+  walked-end l noted a past w = walked-all l noted (λ m c from. along-end ls k (Done mv sw b s g l noted) a m past (w m c from))
 
   module _ (l l′ noted : List ℕ) (a d to : ℕ) (small : b < blocks) (known : s < stateRows) (room : to < length noted)
       (moved : RowSet b to l l′ d) (closed : MoveClosed mv sw g b a (has l′)) where
-    still : (m : ℕ) → fromAt mv m ≡ s → (getD noted s 0 ≡ 0 → MoveClosed mv sw g b m (has l)) → getD (note noted to d) s 0 ≡ 0 → MoveClosed mv sw g b m (has l′)
+    still : (m : ℕ) → fromAt mv m ≡ s → Done mv sw b s g l noted m → Done mv sw b s g l′ (note noted to d) m
     still m from c e =
         let (was, same) = noted-one b l l′ noted to d room moved s known e in
         move-kept-from 0 k mv mv sw g b small s m l l′ from (moved .kept .inside) same (c was)
 
     pub walked-more : (after : ℕ) → after ≡ getD ls a 0 → Walked k mv sw ls b s l noted a g → Walked k mv sw ls b s l′ (note noted to d) after g
-    walked-more after e w m c from = go (w m c from)
-      where
-        go : Either (getD noted s 0 ≡ 0 → MoveClosed mv sw g b m (has l)) (Chain ls k a m) → Either (getD (note noted to d) s 0 ≡ 0 → MoveClosed mv sw g b m (has l′)) (Chain ls k after m)
-        go (done x) = done (still m from x)
-        go (later x) =
-            chain-case x
-            (λ same lt. done (λ none. subst (λ (y : ℕ). MoveClosed mv sw g b y (has l′)) same closed))
-            (λ lt up rest. later (subst (λ (y : ℕ). Chain ls k y m) (sym e) rest))
+    walked-more after e w m c from =
+        along-next ls k (Done mv sw b s g l noted) (Done mv sw b s g l′ (note noted to d)) a m (still m from) (λ none. closed) after e (w m c from)
 
     -- nothing stands behind a
     pub walked-last : getD ls a 0 ≤ a → Walked k mv sw ls b s l noted a g → MovesTried k mv sw ls b s l′ (note noted to d) g
-    walked-last low w = walked-all l′ (note noted to d) (λ m c from. go m from (w m c from))
-      where
-        go : (m : ℕ) → fromAt mv m ≡ s → Either (getD noted s 0 ≡ 0 → MoveClosed mv sw g b m (has l)) (Chain ls k a m) → getD (note noted to d) s 0 ≡ 0 → MoveClosed mv sw g b m (has l′)
-        go m from (done x) = still m from x
-        go m from (later x) =
-            chain-case x
-            (λ same lt none. subst (λ (y : ℕ). MoveClosed mv sw g b y (has l′)) same closed)
-            (λ lt up rest. absurd (omega arith))
+    walked-last low w =
+        walked-all l′ (note noted to d)
+        (λ m c from. along-last ls k (Done mv sw b s g l noted) (Done mv sw b s g l′ (note noted to d)) a m (still m from) (λ none. closed) low (w m c from))
 
 -- ---- what the walk of a list keeps
 
