@@ -2,16 +2,15 @@
 -- Assumes nothing.
 use Prim.Native.Nat.{ℕ, _+_, _-_, _≤_}
 use mathlib.Core.Path.{_≡_}
-use mathlib.Core.Bool.{Bool, cond, _&&_}
+use mathlib.Core.Bool.{Bool, _&&_}
 use mathlib.Core.Option.{Option}
 use mathlib.Core.List.{List}
-use lib.Dec.{leb, ltb, eqb}
+use lib.Dec.{leb, eqb}
 use lib.ListN.{length}
 use Rattle.meaning.specs.Basics.{least}
 use Rattle.meaning.specs.Site.{Site, motionAt}
 use Rattle.meaning.specs.Board.{Free}
 use Rattle.meaning.specs.Plan.{Node, node, wait, move, allowed}
-use Rattle.meaning.specs.Reach.{wordBy}
 use Rattle.search_sizes.specs.Sizes.{blockTicks}
 use Rattle.search_ticks.specs.Rows.{has}
 use Rattle.search_ends.specs.Ends.{reachedAt}

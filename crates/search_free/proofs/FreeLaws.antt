@@ -6,7 +6,6 @@ use native.Mathlib.Omega.{arith}
 use mathlib.Core.Path.{_≡_, refl, sym, ap, ap₂, subst, _∙_}
 use mathlib.Core.Bool.{and-true}
 use mathlib.Core.List.{List}
-use lib.Bits.{bitOr}
 use lib.Pow.{pow-mono}
 use lib.Dec.{ltb, eqb}
 use lib.ListN.{length, getD, set}
@@ -18,10 +17,10 @@ use Rattle.meaning.specs.Board.{free}
 use Rattle.meaning.proofs.BasicsLaws.{decide}
 use Rattle.search_sizes.specs.Sizes.{blockTicks, windowTicks}
 use Rattle.search_ticks.specs.Bits.{odd, bit}
-use Rattle.search_ticks.specs.Rows.{at, ZeroFrom, Put}
-use Rattle.search_ticks.proofs.BitLaws.{or-zero, odd-of, even-of, bit-past}
+use Rattle.search_ticks.specs.Rows.{at, Put}
+use Rattle.search_ticks.proofs.BitLaws.{odd-of, even-of, bit-past}
 use Rattle.search_ticks.proofs.RowLaws.{mapRow, map-turn, put-done}
-use Rattle.search_free.specs.Frees.{freeBit, freeWord, freeTo, FreeBlock}
+use Rattle.search_free.specs.Frees.{freeBit, freeWord, freeTo, FreeBlock, ZeroFrom}
 
 -- ---- a word
 
@@ -70,16 +69,6 @@ free-all b s n left w h e =
     e ∙ ap₂ (λ (x y : ℕ). freeWord b x y) p q
 
 -- bytes of 0 alone
-pub zeros-none : (b : List ℕ) (s : ℕ) → ZeroFrom b s 0
-zeros-none b s j h = absurd (omega arith)
-
-pub zeros-more : (b : List ℕ) (s i all : ℕ) → (all ≡ 0 → ZeroFrom b s i) → bitOr all (getD b (s + i) 0) ≡ 0 → ZeroFrom b s (i + 1)
-zeros-more b s i all h e j lt =
-    let both = or-zero all (getD b (s + i) 0) e in
-    decide (eqb j i)
-    (λ u. let same : j ≡ i = eqb-true j i u in rw same (both .1))
-    (λ u. let other : j ≡ i → ⊥ = eqb-false j i u in h (both .0) j (omega arith))
-
 pub zero-all : (b : List ℕ) (s i all : ℕ) → 64 ≤ i → (all ≡ 0 → ZeroFrom b s i) → all ≡ 0 → ZeroFrom b s 64
 zero-all b s i all most h e j lt = h e j (omega arith)
 

@@ -20,6 +20,10 @@ unfoldable pub freeWord : List ℕ → ℕ → ℕ → ℕ
 freeWord board p zero = 0
 freeWord board p (suc n) = freeWord board (suc p) n * 2 + freeBit (getD board p 0)
 
+-- the n bytes from place p on are 0
+abbrev pub ZeroFrom : List ℕ → ℕ → ℕ → Type 0
+ZeroFrom board p n = (i : ℕ) → i < n → getD board (p + i) 0 ≡ 0
+
 -- tick t is one of the first n, and its byte is 0
 abbrev pub freeTo : List ℕ → ℕ → ℕ → ℕ → Bool
 freeTo board p n t = ltb t n && eqb (getD board (p + t) 0) 0

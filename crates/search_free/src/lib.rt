@@ -7,8 +7,8 @@ ghost use Prim.Native.Nat.{_+_, _*_, _≤_, _<_, min};
 ghost use lib.ListN.{length};
 ghost use Rattle.meaning.specs.Limits.{horizonLimit, cellLimit, header};
 ghost use Rattle.search_sizes.specs.Sizes.{blockTicks, blocks, windowWords, windowTicks};
-ghost use Rattle.search_ticks.specs.Rows.{ZeroFrom, Put};
-ghost use Rattle.search_free.specs.Frees.{freeBit, freeWord, freeTo, heldOf, exchanged, turnedOf, wordOfBytes, FreeBlock};
+ghost use Rattle.search_ticks.specs.Rows.{Put};
+ghost use Rattle.search_free.specs.Frees.{freeBit, freeWord, freeTo, heldOf, exchanged, turnedOf, wordOfBytes, FreeBlock, ZeroFrom};
 
 fn least(a: usize, b: usize) -> usize
     ensures { λ r. ⌜ r ≡ min a b ⌝ }

@@ -4,17 +4,17 @@ use Prim.Native.Nat.{ℕ, suc, _+_, _*_, _-_, _/_, _%_, _≤_, _<_}
 use native.Mathlib.Nat.{mul-le-mul, mul-le-mul-right, suc-mul}
 use native.Mathlib.Omega.{arith}
 use mathlib.Core.Path.{_≡_, sym, ap, _∙_, subst}
-use mathlib.Core.Bool.{Bool, true, false, cond, _&&_, false≢true}
+use mathlib.Core.Bool.{Bool, true, false, cond, false≢true}
 use mathlib.Core.Option.{none, some}
 use mathlib.Core.List.{List}
 use lib.Dec.{leb}
-use lib.ListN.{length, getD, replicate, length-replicate}
+use lib.ListN.{length, getD, replicate}
 use borrow.Author.Tests.{leb-true}
 use Rattle.meaning.specs.Site.{Site, siteOf, cellOf}
 use Rattle.meaning.specs.WellFormed.{WellFormed}
 use Rattle.meaning.specs.Board.{Free, free}
 use Rattle.meaning.specs.Plan.{node, canUnload}
-use Rattle.meaning.specs.Reach.{Route, reached}
+use Rattle.meaning.specs.Reach.{reached}
 use Rattle.meaning.proofs.BasicsLaws.{and-left, and-right}
 use Rattle.meaning.proofs.CallLaws.{named-start, named-tick, named-goal}
 use Rattle.meaning.proofs.MotionLaws.{cell-known}
@@ -27,7 +27,7 @@ use Rattle.search_sizes.specs.Sizes.{blockTicks, rowWords, blockWords, windowWo
 use Rattle.search_ticks.specs.Bits.{bit}
 use Rattle.search_ticks.specs.Rows.{at, has}
 use Rattle.search_ticks.proofs.RowLaws.{zeros-at, zero-bit}
-use Rattle.search_runs.specs.Runs.{runTables, tableOf}
+use Rattle.search_runs.specs.Runs.{tableOf}
 use Rattle.search_runs.proofs.LengthLaws.{table-mono}
 use Rattle.search_site.specs.Arrays.{cellAt, spanAt, placeAt, countAt, States, Motions}
 use Rattle.search_site.specs.Decoded.{SweepsIn, StatesDecoded, MotionsDecoded}

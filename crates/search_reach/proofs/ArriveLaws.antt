@@ -1,14 +1,14 @@
 -- What is allowed of waits and motions, and that the positions at which a motion may end say the same.
 -- Assumes nothing.
-use Prim.Native.Nat.{ℕ, zero, suc, _+_, _-_, _≤_, _<_}
+use Prim.Native.Nat.{ℕ, suc, _+_, _-_, _≤_, _<_}
 use native.Mathlib.Omega.{arith}
-use mathlib.Core.Path.{_≡_, refl, sym, ap, _∙_, subst}
-use mathlib.Core.Bool.{Bool, true, _&&_}
+use mathlib.Core.Path.{_≡_, refl, ap, _∙_, subst}
+use mathlib.Core.Bool.{Bool, true}
 use mathlib.Core.List.{List, [], _∷_}
-use lib.Dec.{leb, ltb, eqb}
+use lib.Dec.{leb}
 use lib.ListN.{length}
-use borrow.Author.Tests.{leb-true, le-leb, lt-ltb, eq-eqb, eqb-true}
-use Rattle.meaning.specs.Basics.{all, allFrom, Each, Some, here, there}
+use borrow.Author.Tests.{le-leb, lt-ltb, eq-eqb, eqb-true}
+use Rattle.meaning.specs.Basics.{allFrom, Each, here, there}
 use Rattle.meaning.specs.Site.{Site, Sweep, stateAt, motionAt, cellOf}
 use Rattle.meaning.specs.Board.{Free}
 use Rattle.meaning.specs.Plan.{wait, move, freeFromTo, sweepsFree, allowed, node as at}

@@ -4,7 +4,7 @@ use Prim.Native.Nat.{ℕ, zero, suc, _+_, _-_, _*_, _≤_, _<_}
 use native.Mathlib.Nat.{mul-le-mul-right, suc-mul}
 use native.Mathlib.Omega.{arith}
 use mathlib.Core.Path.{_≡_, refl, sym, ap, _∙_, subst}
-use mathlib.Core.Bool.{Bool, true, false, _&&_, false≢true}
+use mathlib.Core.Bool.{Bool, true, false, false≢true}
 use mathlib.Core.List.{List}
 use lib.Dec.{leb, ltb}
 use lib.ListN.{length}
@@ -17,7 +17,7 @@ use Rattle.meaning.proofs.SiteLaws.{read-well}
 use Rattle.meaning.specs.Board.{Free, free}
 use Rattle.site.specs.Ready.{Ready}
 use Rattle.site.specs.declared.Sizes.{Sizes}
-use Rattle.search_sizes.specs.Sizes.{blockTicks, windowTicks, windowWords, blockStart}
+use Rattle.search_sizes.specs.Sizes.{blockTicks, windowTicks, blockStart}
 use Rattle.search_ticks.specs.Rows.{at}
 use Rattle.search_free.specs.Frees.{FreeBlock}
 use Rattle.search_runs.specs.Runs.{ended, runLength, tableOf, Shifted, Halves, Tables, Ahead, FirstTable}

@@ -2,19 +2,19 @@
 -- Assumes nothing.
 use Prim.Native.Nat.{ℕ, suc, _+_, _-_, _*_, _/_, _≤_, _<_, min, max}
 use native.Mathlib.Omega.{arith}
-use mathlib.Core.Path.{_≡_, refl, sym, ap, ap₂, _∙_}
+use mathlib.Core.Path.{_≡_, refl, sym, ap₂, _∙_}
 use mathlib.Core.Bool.{Bool, true, false, cond, _&&_, _||_, not, false≢true}
 use mathlib.Core.List.{List}
-use lib.Dec.{leb, ltb, eqb}
-use lib.ListN.{length, getD}
-use borrow.Author.Tests.{leb-true, ltb-true, ltb-false, eqb-true, eqb-false, eq-eqb}
+use lib.Dec.{ltb, eqb}
+use lib.ListN.{length}
+use borrow.Author.Tests.{leb-true, ltb-true, ltb-false, eqb-true, eq-eqb}
 use Rattle.meaning.specs.Site.{Site, siteOf, cellOf}
 use Rattle.meaning.specs.Board.{Free, free}
 use Rattle.meaning.specs.Plan.{Node, node, canUnload}
 use Rattle.meaning.proofs.BasicsLaws.{decide, and-left, and-right, every-at}
 use Rattle.site.specs.Ready.{Ready}
 use Rattle.site.specs.declared.Sizes.{Sizes}
-use Rattle.search_sizes.specs.Sizes.{blockTicks, blocks, rowTicks, blockStart}
+use Rattle.search_sizes.specs.Sizes.{blockTicks, blocks, rowTicks}
 use Rattle.search_ticks.specs.Rows.{at, has, Seeded}
 use Rattle.search_runs.specs.Runs.{Tables, Ahead}
 use Rattle.search_site.specs.Arrays.{spanAt}

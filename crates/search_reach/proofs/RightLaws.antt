@@ -4,26 +4,26 @@
 use Prim.Native.Nat.{ℕ, zero, suc, _+_, _-_, _*_, _/_, _≤_, _<_}
 use native.Mathlib.Nat.{not-suc-le-zero}
 use native.Mathlib.Omega.{arith}
-use mathlib.Core.Path.{_≡_, refl, sym, ap, _∙_, subst}
+use mathlib.Core.Path.{_≡_, sym, ap, _∙_, subst}
 use mathlib.Core.Bool.{Bool, true, _&&_}
 use mathlib.Core.List.{List}
 use lib.Dec.{leb}
 use lib.ListN.{length}
 use borrow.Author.Tests.{leb-true, le-leb, lt-ltb}
 use Rattle.meaning.specs.Basics.{Each}
-use Rattle.meaning.specs.Site.{Site, Motion, Sweep, stateAt, motionAt, cellOf}
+use Rattle.meaning.specs.Site.{Site, Motion, motionAt, cellOf}
 use Rattle.meaning.specs.Board.{Free}
 use Rattle.meaning.specs.Plan.{wait, move, Node, sweepsFree, allowed, startFree, node as at}
 use Rattle.meaning.specs.Reach.{reached}
 use Rattle.meaning.specs.WellFormed.{WellFormed}
 use Rattle.meaning.proofs.BasicsLaws.{and-left, and-right, every-nil, every-cons, each-map, same-test}
-use Rattle.meaning.proofs.ReachLaws.{span-pos, move-known, move-ends, wait-ends, Came, at-start, by-wait, by-move, came-here, reached-start, reached-state, reached-wait, reached-move}
+use Rattle.meaning.proofs.ReachLaws.{span-pos, move-known, Came, at-start, by-wait, by-move, came-here, reached-start, reached-state, reached-wait, reached-move}
 use Rattle.meaning.proofs.MotionLaws.{good-at}
-use Rattle.search_sizes.specs.Sizes.{blockTicks, blocks, rowTicks, blockStart}
+use Rattle.search_sizes.specs.Sizes.{blockTicks, blocks, blockStart}
 use Rattle.search_ticks.specs.Rows.{has}
 use Rattle.search_arrivals.specs.Arrivals.{arrives}
 use Rattle.search_site.specs.Arrays.{cellAt, speedAt, fromAt, toAt, spanAt}
-use Rattle.search_site.specs.Decoded.{Decoded, sweepsOf}
+use Rattle.search_site.specs.Decoded.{Decoded}
 use Rattle.search_step.specs.Sets.{Pairs, endsAt, WaitClosed, MoveClosed, Below, Closed, Inside}
 use Rattle.search_ends.specs.Ends.{reachedAt}
 use Rattle.search_reach.specs.Explored.{freeFrom}

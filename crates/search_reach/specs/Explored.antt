@@ -1,11 +1,11 @@
 -- What the search over blocks is handed: the site in arrays, tables of enough room, and the ticks at which the tug can unload.
 -- Assumes nothing.
-use Prim.Native.Nat.{ℕ, suc, _+_, _-_, _*_, _≤_, _<_}
+use Prim.Native.Nat.{ℕ, suc, _-_, _*_, _≤_, _<_}
 use mathlib.Core.Path.{_≡_}
 use mathlib.Core.Bool.{Bool, cond, _&&_}
 use mathlib.Core.List.{List}
 use lib.Dec.{leb}
-use lib.ListN.{length, getD}
+use lib.ListN.{getD}
 use Rattle.meaning.specs.Site.{Site, siteOf}
 use Rattle.meaning.specs.Board.{Free}
 use Rattle.meaning.specs.Plan.{node, canUnload}

@@ -1,7 +1,7 @@
 -- The loop that changes a row word by word, the bits of the changed row, and the sum of the words, which grows with every new bit.
 -- Assumes nothing.
-use Prim.Native.Nat.{ℕ, zero, suc, _+_, _-_, _*_, _/_, _%_, _^_, _≤_, _<_}
-use native.Mathlib.Nat.{suc-mul}
+use Prim.Native.Nat.{ℕ, zero, suc, _+_, _-_, _*_, _/_, _%_, _≤_, _<_}
+use native.Mathlib.Nat.{add-zero, suc-mul}
 use native.Mathlib.Numerals.{add-one}
 use native.Mathlib.Omega.{arith}
 use mathlib.Core.Path.{_≡_, refl, sym, ap, ap₂, _∙_}
@@ -15,7 +15,7 @@ use borrow.Author.Tests.{ltb-true, ltb-false, eqb-true, eqb-false}
 use Rattle.meaning.proofs.BasicsLaws.{decide}
 use Rattle.search_sizes.specs.Sizes.{blockTicks}
 use Rattle.search_ticks.specs.Bits.{bit, windowOf}
-use Rattle.search_ticks.specs.Rows.{at, Words, total, Grown, Put}
+use Rattle.search_ticks.specs.Rows.{at, Words, total, Grown, Put, newBits, joinFour, newFour}
 use Rattle.search_ticks.proofs.BitLaws.{or-zero, bit-past, window-low, window-high}
 
 pub zeros-at : (n i : ℕ) → getD (replicate {A = ℕ} n 0) i 0 ≡ 0
@@ -102,23 +102,6 @@ module _ (g : ℕ → ℕ → ℕ) (b : ℕ) where
   unfolding at
   map-bit-after l j h = ap (λ (x : ℕ). bit x (j % 64)) (map-after 4 0 l (j / 64) (omega arith))
 
--- ---- words of 64 bits
-
-pub zero-words : (n : ℕ) → Words (replicate n 0)
-zero-words n i = omega (arith, zeros-at n i)
-
-pub set-words : (l : List ℕ) (i v : ℕ) → Words l → v < 2 ^ 64 → Words (set l i v)
-set-words l i v fit h j =
-    decide (eqb j i)
-    (λ e.
-    let same : j ≡ i = eqb-true j i e in
-    decide (ltb i (length l))
-    (λ u. rw (same, getD-set-same l i v 0 (ltb-true i (length l) u)) h)
-    (λ u.
-    let past : length l ≤ i = ltb-false i (length l) u in
-    omega (arith, List·getD-eq-default (set l i v) 0 {n = j} (omega (arith, length-set l i v)))))
-    (λ e. rw (getD-set-other l i j v 0 (eqb-false j i e)) (fit j))
-
 -- ---- a window of a list of words
 pub window-at : (l : List ℕ) (w r i : ℕ) → Words l → r < 64 → i < 64 → bit (windowOf (getD l w 0) (getD l (w + 1) 0) r) i ≡ at l (w * 64 + r + i)
 unfolding at
@@ -197,3 +180,41 @@ grown-turn l₀ l d k y h g = go (getD l k 0) (bitOr (getD l k 0) y) refl (or-ge
           (λ u. omega (arith, eqb-false d 0 u, g .more (omega (arith, eqb-false d 0 u)), total-set l k new h));
       sized = length-set l k new ∙ g .sized;
     }
+
+-- ---- four words from place b on joined with others, where all are read before the first store
+
+module _ (g : ℕ → ℕ) (b : ℕ) where
+  abbrev pub joinWord : ℕ → ℕ → ℕ
+  joinWord i w = bitOr w (g i)
+
+  -- i words are joined, and those that follow are as at the start
+  pub record Joining (l₀ l : List ℕ) (d i : ℕ) : Type 0 where
+    pub grown : Grown l₀ l d
+    pub left : mapRow joinWord b (4 - i) i l ≡ mapRow joinWord b 4 0 l₀
+    pub rest : (j : ℕ) → i ≤ j → getD l (b + j) 0 ≡ getD l₀ (b + j) 0
+
+  joining-start : (l : List ℕ) → Joining l l 0 0
+  joining-start l = record { grown = grown-start l; left = refl; rest = λ j h. refl }
+
+  joining-turn : {l : List ℕ} {d : ℕ} (l₀ : List ℕ) (i : ℕ) → i < 4 → b + i < length l₀ → Joining l₀ l d i
+      → Joining l₀ (set l (b + i) (bitOr (getD l₀ (b + i) 0) (g i))) (bitOr d (newBits (getD l₀ (b + i) 0) (g i))) (i + 1)
+  joining-turn {l} {d} l₀ i h n s =
+      let same : getD l (b + i) 0 ≡ getD l₀ (b + i) 0 = s .rest i (omega arith) in
+      record {
+        grown = rw same at (grown-turn l₀ l d (b + i) (g i) (omega (arith, s .grown .sized)) (s .grown));
+        left = rw same at (map-turn joinWord b i l (mapRow joinWord b 4 0 l₀) h (s .left));
+        rest = λ j later. getD-set-other l (b + i) (b + j) _ 0 (λ e. omega arith) ∙ s .rest j (omega arith);
+      }
+
+  pub four-joined : (l : List ℕ) → b + 4 ≤ length l → Joining l (joinFour l b (g 0) (g 1) (g 2) (g 3)) (newFour l b (g 0) (g 1) (g 2) (g 3)) 4
+  unfolding joinFour newFour
+  four-joined l room =
+      let one = rw (add-zero b) at (joining-turn l 0 (omega arith) (omega arith) (joining-start l)) in
+      let two = joining-turn l 1 (omega arith) (omega arith) one in
+      let three = joining-turn l 2 (omega arith) (omega arith) two in
+      joining-turn l 3 (omega arith) (omega arith) three
+
+  pub put-joined : (l₀ l : List ℕ) (d : ℕ) (test : ℕ → Bool) → b + 4 ≤ length l₀ → Joining l₀ l d 4
+      → ((i : ℕ) → i < blockTicks → bit (bitOr (getD l₀ (b + i / 64) 0) (g (i / 64))) (i % 64) ≡ test i) → Put l₀ l (b * 64) test
+  put-joined l₀ l d test room s h =
+      put-done joinWord l₀ l b test room (map-end joinWord b 4 l (mapRow joinWord b 4 0 l₀) (omega arith) (omega arith) (s .left)) h

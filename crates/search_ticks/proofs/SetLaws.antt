@@ -15,9 +15,9 @@ use borrow.Author.Tests.{ltb-true, ltb-false, eqb-true, eqb-false, eq-eqb, ne-eq
 use Rattle.meaning.proofs.BasicsLaws.{decide, and-left, and-right, same-test}
 use Rattle.search_sizes.specs.Sizes.{blockWords, blockTicks, blocks, windowWords, windowTicks, rowWords, rowTicks, ticks, blockStart, spanLimit}
 use Rattle.search_ticks.specs.Bits.{odd, bit, windowOf, runOf, fillOf}
-use Rattle.search_ticks.specs.Rows.{at, has, Words, Grown, Put, Changed, pushed, waited, filled, Seeded}
+use Rattle.search_ticks.specs.Rows.{at, has, Words, Grown, Put, Changed, joinFour, newFour, pushed, waited, filled, Seeded}
 use Rattle.search_ticks.proofs.BitLaws.{or-zero, bit-and, bit-or, bit-xor, bit-shr, bit-rem, bit-scaled, bit-scaled-low, bit-past, bit-full, xor, fill-first, fill-next}
-use Rattle.search_ticks.proofs.RowLaws.{zero-bit, mapRow, map-turn, map-end, put-done, window-at, grown-start, grown-turn}
+use Rattle.search_ticks.proofs.RowLaws.{zero-bit, mapRow, map-turn, map-end, put-done, window-at, grown-start, grown-turn, four-joined, put-joined}
 
 -- ---- places
 
@@ -161,56 +161,42 @@ later-bit l from span b a r i fit digit few e =
 -- ---- a push
 
 -- what the row of k from word c on has of the ticks that come, by windows from bit r of word a on
-unfoldable pub pushWord : List ℕ → List ℕ → ℕ → ℕ → ℕ → ℕ → ℕ → ℕ
-pushWord l k a c r i w = bitOr w (bitAnd (windowOf (getD l (a + i) 0) (getD l (a + i + 1) 0) r) (getD k (c + i) 0))
+unfoldable pub comeWord : List ℕ → List ℕ → ℕ → ℕ → ℕ → ℕ → ℕ
+comeWord l k a c r i = bitAnd (windowOf (getD l (a + i) 0) (getD l (a + (i + 1)) 0) r) (getD k (c + i) 0)
 
--- what is done, and the words read, which are as at the start
-pub record Pushing (l₀ k : List ℕ) (a b c r : ℕ) (l : List ℕ) (d i : ℕ) : Type 0 where
-  pub grown : Grown l₀ l d
-  pub left : mapRow (pushWord l₀ k a c r) b (blockWords - i) i l ≡ mapRow (pushWord l₀ k a c r) b blockWords 0 l₀
-  pub rest : (j : ℕ) → j ≤ blockWords → getD l (a + j) 0 ≡ getD l₀ (a + j) 0
-
-pub pushing-start : (l k : List ℕ) (a b c r : ℕ) → Pushing l k a b c r l 0 0
-pushing-start l k a b c r = record { grown = grown-start l; left = refl; rest = λ j h. refl }
-
--- n words from w on are of row s
-abbrev pub InRow : ℕ → ℕ → ℕ → Type 0
-InRow s w n = (s * rowWords ≤ w) × (w + n ≤ s * rowWords + rowWords)
-
-pub pushing-turn : (from to : ℕ) (l₀ k : List ℕ) (a b c r : ℕ) (l : List ℕ) (d i y : ℕ) → (from ≡ to → ⊥) → InRow from a 5 → InRow to b 4
-    → i < blockWords → b + i < length l → y ≡ windowOf (getD l (a + i) 0) (getD l (a + i + 1) 0) r → Pushing l₀ k a b c r l d i
-    → Pushing l₀ k a b c r (set l (b + i) (bitOr (getD l (b + i) 0) (bitAnd y (getD k (c + i) 0))))
-    (bitOr d (bitXor (bitOr (getD l (b + i) 0) (bitAnd y (getD k (c + i) 0))) (getD l (b + i) 0))) (i + 1)
-unfolding pushWord
-pushing-turn from to l₀ k a b c r l d i y ne reads writes h n e g =
-    let next : a + i + 1 ≡ a + (i + 1) = omega arith in
-    let high : getD l (a + i + 1) 0 ≡ getD l₀ (a + i + 1) 0 =
-    ap (λ (x : ℕ). getD l x 0) next ∙ g .rest (i + 1) (omega arith) ∙ ap (λ (x : ℕ). getD l₀ x 0) (sym next) in
-    let z : y ≡ windowOf (getD l₀ (a + i) 0) (getD l₀ (a + i + 1) 0) r =
-    e ∙ ap₂ (λ (u v : ℕ). windowOf u v r) (g .rest i (omega arith)) high in
-    record {
-      grown = grown-turn l₀ l d (b + i) (bitAnd y (getD k (c + i) 0)) n (g .grown);
-      left = rw z (map-turn (pushWord l₀ k a c r) b i l _ h (g .left));
-      rest = λ j few. getD-set-other l (b + i) (a + j) _ 0 (λ x. ne (omega arith)) ∙ g .rest j few;
-    }
-
-pub push-done : (l₀ l k : List ℕ) (from to m span block a b c r d i : ℕ) → Words l₀ → b + blockWords ≤ length l₀ → block < blocks
-    → r < 64 → span ≤ spanLimit → a * 64 + r + span ≡ from * rowTicks + blockStart block → b * 64 ≡ to * rowTicks + blockStart block
-    → c * 64 ≡ m * blockTicks → blockWords ≤ i → i ≤ blockWords → Pushing l₀ k a b c r l d i
-    → Changed l₀ l to block (pushed l₀ k from to m span block)
-unfolding pushWord
-push-done l₀ l k from to m span block a b c r d i fit room few digit short read write mask past most p =
-    changed-of-put to block few write
-    (put-done (pushWord l₀ k a c r) l₀ l b (pushed l₀ k from to m span block) room (map-end (pushWord l₀ k a c r) b i l _ past most (p .left))
-    (λ j h.
-    let come : ℕ = windowOf (getD l₀ (a + j / 64) 0) (getD l₀ (a + j / 64 + 1) 0) r in
-    bit-or (j % 64) (getD l₀ (b + j / 64) 0) (bitAnd come (getD k (c + j / 64) 0))
-    ∙ ap₂ (λ (x y : Bool). x || y)
-    (row-bit l₀ to b (blockStart block) j write)
-    (bit-and (j % 64) come (getD k (c + j / 64) 0)
+come-bit : (l k : List ℕ) (from m span block a c r i : ℕ) → Words l → r < 64 → span ≤ spanLimit
+    → a * 64 + r + span ≡ from * rowTicks + blockStart block → c * 64 ≡ m * blockTicks
+    → bit (comeWord l k a c r (i / 64)) (i % 64) ≡ (has l from (blockStart block + i - span) && at k (m * blockTicks + i))
+unfolding comeWord
+come-bit l k from m span block a c r i fit digit short read mask =
+    let next : a + (i / 64 + 1) ≡ a + i / 64 + 1 = omega arith in
+    bit-and (i % 64) (windowOf (getD l (a + i / 64) 0) (getD l (a + (i / 64 + 1)) 0) r) (getD k (c + i / 64) 0)
     ∙ ap₂ (λ (x y : Bool). x && y)
-    (later-bit l₀ from span block a r j fit digit short read)
-    (word-bit k c j ∙ ap (at k) (omega arith)))))
+    (ap (λ (x : ℕ). bit (windowOf (getD l (a + i / 64) 0) (getD l x 0) r) (i % 64)) next ∙ later-bit l from span block a r i fit digit short read)
+    (word-bit k c i ∙ ap (at k) (omega arith))
+
+-- w is the window of words p and q
+abbrev pub IsWindow : List ℕ → ℕ → ℕ → ℕ → ℕ → Type 0
+IsWindow l r p q w = w ≡ windowOf (getD l p 0) (getD l q 0) r
+
+pub push-done : (l₀ l k : List ℕ) (from to m span block a b c r d w₀ w₁ w₂ w₃ : ℕ) → Words l₀ → b + blockWords ≤ length l₀ → block < blocks
+    → r < 64 → span ≤ spanLimit → a * 64 + r + span ≡ from * rowTicks + blockStart block → b * 64 ≡ to * rowTicks + blockStart block
+    → c * 64 ≡ m * blockTicks
+    → IsWindow l₀ r a (a + 1) w₀ → IsWindow l₀ r (a + 1) (a + 2) w₁ → IsWindow l₀ r (a + 2) (a + 3) w₂ → IsWindow l₀ r (a + 3) (a + 4) w₃
+    → l ≡ joinFour l₀ b (bitAnd w₀ (getD k c 0)) (bitAnd w₁ (getD k (c + 1) 0)) (bitAnd w₂ (getD k (c + 2) 0)) (bitAnd w₃ (getD k (c + 3) 0))
+    → d ≡ newFour l₀ b (bitAnd w₀ (getD k c 0)) (bitAnd w₁ (getD k (c + 1) 0)) (bitAnd w₂ (getD k (c + 2) 0)) (bitAnd w₃ (getD k (c + 3) 0))
+    → Changed l₀ l to block (pushed l₀ k from to m span block) × Grown l₀ l d
+unfolding comeWord
+push-done l₀ l k from to m span block a b c r d w₀ w₁ w₂ w₃ fit room few digit short read write mask e₀ e₁ e₂ e₃ e n =
+    let done = rw (add-zero a, add-zero c) at (four-joined (comeWord l₀ k a c r) b l₀ room) in
+    rw (e, n, e₀, e₁, e₂, e₃) (
+      changed-of-put to block few write
+          (put-joined (comeWord l₀ k a c r) b l₀ _ _ (pushed l₀ k from to m span block) room done
+          (λ j h.
+          bit-or (j % 64) (getD l₀ (b + j / 64) 0) (comeWord l₀ k a c r (j / 64))
+          ∙ ap₂ (λ (x y : Bool). x || y) (row-bit l₀ to b (blockStart block) j write) (come-bit l₀ k from m span block a c r j fit digit short read mask))),
+      done .grown,
+    )
 
 -- ---- what a push could set
 

@@ -5,8 +5,9 @@ use Prim.Native.Nat.{ℕ, zero, suc, _+_, _-_, _*_, _/_, _%_, _^_, _≤_, _<_}
 use mathlib.Core.Path.{_≡_}
 use mathlib.Core.Bool.{Bool, _&&_, _||_}
 use mathlib.Core.List.{List, [], _∷_}
+use lib.Bits.{bitOr, bitXor}
 use lib.Dec.{eqb}
-use lib.ListN.{length, getD}
+use lib.ListN.{length, getD, set}
 use Rattle.search_sizes.specs.Sizes.{blockTicks, windowTicks, rowTicks, blockStart}
 use Rattle.search_ticks.specs.Bits.{bit}
 
@@ -27,15 +28,28 @@ unfoldable pub total : List ℕ → ℕ
 total [] = 0
 total (x ∷ l) = x + total l
 
--- the n numbers from place p on are 0
-abbrev pub ZeroFrom : List ℕ → ℕ → ℕ → Type 0
-ZeroFrom l p n = (i : ℕ) → i < n → getD l (p + i) 0 ≡ 0
-
 -- nothing where d is 0; else the sum of the words has grown
 pub record Grown (l₀ l : List ℕ) (d : ℕ) : Type 0 where
   pub same : d ≡ 0 → l ≡ l₀
   pub more : 0 < d → total l₀ < total l
   pub sized : length l ≡ length l₀
+
+-- ---- four words joined with others
+
+-- the four words from place b on joined with others
+unfoldable pub joinFour : List ℕ → ℕ → ℕ → ℕ → ℕ → ℕ → List ℕ
+joinFour l b x₀ x₁ x₂ x₃ =
+    set (set (set (set l b (bitOr (getD l b 0) x₀)) (b + 1) (bitOr (getD l (b + 1) 0) x₁)) (b + 2) (bitOr (getD l (b + 2) 0) x₂)) (b + 3)
+    (bitOr (getD l (b + 3) 0) x₃)
+
+-- the bits of x that are not in w
+abbrev pub newBits : ℕ → ℕ → ℕ
+newBits w x = bitXor (bitOr w x) w
+
+-- the new bits of the four words, all together
+unfoldable pub newFour : List ℕ → ℕ → ℕ → ℕ → ℕ → ℕ → ℕ
+newFour l b x₀ x₁ x₂ x₃ =
+    bitOr (bitOr (bitOr (newBits (getD l b 0) x₀) (newBits (getD l (b + 1) 0) x₁)) (newBits (getD l (b + 2) 0) x₂)) (newBits (getD l (b + 3) 0) x₃)
 
 -- ---- a block of bits changed
 

@@ -9,7 +9,7 @@ ghost use Prim.Native.Nat.{ℕ, _+_, _-_, _*_, _≤_, _<_};
 ghost use lib.ListN.{length};
 ghost use Rattle.search_sizes.specs.Sizes.{blockWords, blockTicks, blocks, windowWords, windowTicks, rowWords, ticks, blockStart, spanLimit};
 ghost use Rattle.search_ticks.specs.Bits.{windowOf, fillOf};
-ghost use Rattle.search_ticks.specs.Rows.{at, has, Grown, Changed, pushed, filled, Seeded};
+ghost use Rattle.search_ticks.specs.Rows.{at, has, Grown, Changed, joinFour, newFour, pushed, filled, Seeded};
 
 // ---- single words
 
@@ -92,6 +92,23 @@ pub fn fill(l: &mut [u64], f: &[u64], s: usize, c: usize, block: usize) -> u64
     diff
 }
 
+// Joins the four words of l from place b on with x0 to x3. Answers the bits that were new, of all words together.
+fn join_four(l: &mut [u64], b: usize, x0: u64, x1: u64, x2: u64, x3: u64) -> u64
+    requires { ⌜ b + blockWords ≤ length (now l) ⌝ }
+    ensures { λ d. ⌜ now (l .exit) ≡ joinFour (now (l .entry)) b x0 x1 x2 x3 ⌝ }
+    ensures { λ d. ⌜ d ≡ newFour (now (l .entry)) b x0 x1 x2 x3 ⌝ }
+{
+    let y0 = l[b];
+    let y1 = l[b + 1];
+    let y2 = l[b + 2];
+    let y3 = l[b + 3];
+    l[b] = y0 | x0;
+    l[b + 1] = y1 | x1;
+    l[b + 2] = y2 | x2;
+    l[b + 3] = y3 | x3;
+    ((((y0 | x0) ^ y0) | ((y1 | x1) ^ y1)) | ((y2 | x2) ^ y2)) | ((y3 | x3) ^ y3)
+}
+
 // Sets in the block of row `to` the ticks of row `from`, `span` later, that row m of k has in the block. Answers the bits that were new.
 pub fn push(
     l: &mut [u64],
@@ -102,7 +119,7 @@ pub fn push(
     span: usize,
     block: usize,
 ) -> u64
-    requires { ⌜ (from * rowWords + rowWords ≤ length (now l)) × ((to * rowWords + rowWords ≤ length (now l)) × (from ≡ to → ⊥)) ⌝ }
+    requires { ⌜ (from * rowWords + rowWords ≤ length (now l)) × (to * rowWords + rowWords ≤ length (now l)) ⌝ }
     requires { ⌜ (block < blocks) × ((1 ≤ span) × (span ≤ spanLimit)) ⌝ }
     requires { ⌜ m * blockWords + blockWords ≤ length (now k) ⌝ }
     ensures { λ d. ⌜ Changed (now (l .entry)) (now (l .exit)) to block (pushed (now (l .entry)) (now (k .entry)) from to m span block) ⌝ }
@@ -112,16 +129,16 @@ pub fn push(
     let b = to * ROW_WORDS + block * BLOCK_WORDS + BLOCK_WORDS;
     let c = m * BLOCK_WORDS;
     let r = ((BLOCK_TICKS - span) % 64) as u64;
-    let mut diff: u64 = 0;
-    let mut i = 0;
-    while i < BLOCK_WORDS {
-        let old = l[b + i];
-        let new = old | (window(l[a + i], l[a + i + 1], r) & k[c + i]);
-        diff = diff | (new ^ old);
-        l[b + i] = new;
-        i += 1;
-    }
-    diff
+    let w0 = l[a];
+    let w1 = l[a + 1];
+    let w2 = l[a + 2];
+    let w3 = l[a + 3];
+    let w4 = l[a + 4];
+    let x0 = window(w0, w1, r) & k[c];
+    let x1 = window(w1, w2, r) & k[c + 1];
+    let x2 = window(w2, w3, r) & k[c + 2];
+    let x3 = window(w3, w4, r) & k[c + 3];
+    join_four(l, b, x0, x1, x2, x3)
 }
 
 // What a push could set: 0 only if row `to` has in the block every tick of row `from`, `span` later, at which row c of f is free.

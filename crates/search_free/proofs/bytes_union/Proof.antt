@@ -4,8 +4,9 @@ use Prim.Native.Nat.{_-_, _≤_}
 use native.Mathlib.Omega.{arith}
 use mathlib.Core.Path.{_≡_}
 use borrow.Author.Needs.{needs}
-use Rattle.search_ticks.specs.Rows.{ZeroFrom}
-use Rattle.search_free.proofs.FreeLaws.{zeros-none, zeros-more, zero-all}
+use Rattle.search_ticks.proofs.SetLaws.{wordFrom, zeros-none, zeros-more}
+use Rattle.search_free.specs.Frees.{ZeroFrom}
+use Rattle.search_free.proofs.FreeLaws.{zero-all}
 use Rattle.search_free.proofs.bytes_union.Statement.{statement}
 use Rattle.search_free.proofs.bytes_union.Tie as tie
 
@@ -16,7 +17,7 @@ abbrev μ-loop : tie.MeasureT-loop
 μ-loop board start all₀ i₀ all i = 64 - i
 
 loop-holds : tie.Need-loop-holds Inv-loop μ-loop
-loop-holds c = (omega arith, λ e. zeros-none (c .args .board .now) (c .args .start))
+loop-holds c = (omega arith, λ e. zeros-none (wordFrom (c .args .board .now) (c .args .start)))
 
 add-all : tie.Need-add-all Inv-loop μ-loop
 add-all c = search needs
@@ -34,7 +35,7 @@ loop-again : tie.Need-loop-again Inv-loop μ-loop
 loop-again c =
     let turn = c .before .before in
     let a = turn .before .args in
-    (omega arith, zeros-more (a .board .now) (a .start) (turn .loop .i) (turn .loop .all) (turn .loop .inv .1))
+    (omega arith, zeros-more (wordFrom (a .board .now) (a .start)) (turn .loop .i) (turn .loop .all) (turn .loop .inv .1))
 
 returns : tie.Need-returns Inv-loop μ-loop
 returns c =

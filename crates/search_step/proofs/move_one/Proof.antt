@@ -113,7 +113,7 @@ push-requires c κs =
     let is-from = after-from .from-of .ensures in
     let is-to = after-to .to-of .ensures in
     let is-span = after-span .span-of .ensures in (
-      (omega (arith, from, is-from), (omega (arith, to, is-to), λ same. leads .apart m lt (sym is-from ∙ same ∙ is-to))),
+      (omega (arith, from, is-from), omega (arith, to, is-to)),
       (
         (start .pre .1 .0 .1 .1, (omega (arith, span, is-span), omega (arith, span, is-span))),
         omega (arith, joined (c .before .before) .sized),

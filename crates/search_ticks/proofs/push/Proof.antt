@@ -1,139 +1,159 @@
--- `search_ticks::push` meets its contract: what is left of the loop gives the whole block; the words read are not changed.
+-- `search_ticks::push` meets its contract: all words are read before the first store, so the four stores put the whole block.
 -- Assumes nothing.
-use Prim.Native.Nat.{_-_, _≤_}
+use Prim.Native.Nat.{_+_, _-_, _*_, _/_, _%_}
 use native.Mathlib.Omega.{arith}
-use Rattle.search_ticks.proofs.SetLaws.{Pushing, pushing-start, pushing-turn, push-done}
+use borrow.Author.Needs.{needs}
+use Rattle.search_sizes.specs.Sizes.{blockWords, blockTicks, rowWords}
+use Rattle.search_ticks.proofs.SetLaws.{push-done}
 use Rattle.search_ticks.proofs.push.Statement.{statement}
 use Rattle.search_ticks.proofs.push.Tie as tie
 
-abbrev Inv-loop : tie.InvT-loop
-Inv-loop l₀ k from to m span block a b c r diff₀ i₀ l diff i = (i ≤ 4) × Pushing l₀ k a b c r l diff i
-
-abbrev μ-loop : tie.MeasureT-loop
-μ-loop l₀ k from to m span block a b c r diff₀ i₀ l diff i = 4 - i
-
-mul-a : tie.Need-mul-a Inv-loop μ-loop
+mul-a : tie.Need-mul-a
 mul-a c = omega arith
 
-mul-a-2 : tie.Need-mul-a-2 Inv-loop μ-loop
+mul-a-2 : tie.Need-mul-a-2
 mul-a-2 c = omega arith
 
-add-a : tie.Need-add-a Inv-loop μ-loop
+add-a : tie.Need-add-a
 add-a c = omega arith
 
-sub-a : tie.Need-sub-a Inv-loop μ-loop
+sub-a : tie.Need-sub-a
 sub-a c = omega arith
 
-add-a-2 : tie.Need-add-a-2 Inv-loop μ-loop
+add-a-2 : tie.Need-add-a-2
 add-a-2 c = omega arith
 
-mul-b : tie.Need-mul-b Inv-loop μ-loop
+mul-b : tie.Need-mul-b
 mul-b c = omega arith
 
-mul-b-2 : tie.Need-mul-b-2 Inv-loop μ-loop
+mul-b-2 : tie.Need-mul-b-2
 mul-b-2 c = omega arith
 
-add-b : tie.Need-add-b Inv-loop μ-loop
+add-b : tie.Need-add-b
 add-b c = omega arith
 
-add-b-2 : tie.Need-add-b-2 Inv-loop μ-loop
+add-b-2 : tie.Need-add-b-2
 add-b-2 c = omega arith
 
-mul-c : tie.Need-mul-c Inv-loop μ-loop
+mul-c : tie.Need-mul-c
 mul-c c = omega arith
 
-sub-r : tie.Need-sub-r Inv-loop μ-loop
+sub-r : tie.Need-sub-r
 sub-r c = omega arith
 
-loop-holds : tie.Need-loop-holds Inv-loop μ-loop
-loop-holds c = (omega arith, pushing-start _ _ _ _ _ _)
+mul-w0 : tie.Need-mul-w0
+mul-w0 c = omega arith
 
-add-old : tie.Need-add-old Inv-loop μ-loop
-add-old c = omega arith
+slice-read-w0 : tie.Need-slice-read-w0
+slice-read-w0 c = omega arith
 
-mul-old : tie.Need-mul-old Inv-loop μ-loop
-mul-old c = omega arith
+add-w1 : tie.Need-add-w1
+add-w1 c = omega arith
 
-slice-read-old : tie.Need-slice-read-old Inv-loop μ-loop
-slice-read-old c = omega arith
+mul-w1 : tie.Need-mul-w1
+mul-w1 c = omega arith
 
-add-window : tie.Need-add-window Inv-loop μ-loop
-add-window c = omega arith
+slice-read-w1 : tie.Need-slice-read-w1
+slice-read-w1 c = omega arith
 
-mul-window : tie.Need-mul-window Inv-loop μ-loop
-mul-window c = omega arith
+add-w2 : tie.Need-add-w2
+add-w2 c = omega arith
 
-slice-read-window : tie.Need-slice-read-window Inv-loop μ-loop
-slice-read-window c = omega arith
+mul-w2 : tie.Need-mul-w2
+mul-w2 c = omega arith
 
-add-window-2 : tie.Need-add-window-2 Inv-loop μ-loop
-add-window-2 c = omega arith
+slice-read-w2 : tie.Need-slice-read-w2
+slice-read-w2 c = omega arith
 
-add-window-3 : tie.Need-add-window-3 Inv-loop μ-loop
-add-window-3 c = omega arith
+add-w3 : tie.Need-add-w3
+add-w3 c = omega arith
 
-mul-window-2 : tie.Need-mul-window-2 Inv-loop μ-loop
-mul-window-2 c = omega arith
+mul-w3 : tie.Need-mul-w3
+mul-w3 c = omega arith
 
-slice-read-window-2 : tie.Need-slice-read-window-2 Inv-loop μ-loop
-slice-read-window-2 c = omega arith
+slice-read-w3 : tie.Need-slice-read-w3
+slice-read-w3 c = omega arith
 
-window-requires : tie.Need-window-requires Inv-loop μ-loop
+add-w4 : tie.Need-add-w4
+add-w4 c = omega arith
+
+mul-w4 : tie.Need-mul-w4
+mul-w4 c = omega arith
+
+slice-read-w4 : tie.Need-slice-read-w4
+slice-read-w4 c = omega arith
+
+window-requires : tie.Need-window-requires
 window-requires c κs = omega arith
 
-add-new : tie.Need-add-new Inv-loop μ-loop
-add-new c = omega arith
+mul-x0 : tie.Need-mul-x0
+mul-x0 c = omega arith
 
-mul-new : tie.Need-mul-new Inv-loop μ-loop
-mul-new c = omega arith
+shared-slice-read-x0 : tie.Need-shared-slice-read-x0
+shared-slice-read-x0 c = omega arith
 
-shared-slice-read-new : tie.Need-shared-slice-read-new Inv-loop μ-loop
-shared-slice-read-new c = omega arith
+window-requires-2 : tie.Need-window-requires-2
+window-requires-2 c κs = omega arith
 
-add-l : tie.Need-add-l Inv-loop μ-loop
-add-l c = omega arith
+add-x1 : tie.Need-add-x1
+add-x1 c = omega arith
 
-mul-l : tie.Need-mul-l Inv-loop μ-loop
-mul-l c = omega arith
+mul-x1 : tie.Need-mul-x1
+mul-x1 c = omega arith
 
-slice-write-l : tie.Need-slice-write-l Inv-loop μ-loop
-slice-write-l c = omega arith
+shared-slice-read-x1 : tie.Need-shared-slice-read-x1
+shared-slice-read-x1 c = omega arith
 
-add-i : tie.Need-add-i Inv-loop μ-loop
-add-i c = omega arith
+window-requires-3 : tie.Need-window-requires-3
+window-requires-3 c κs = omega arith
 
-loop-less : tie.Need-loop-less Inv-loop μ-loop
-loop-less c = omega arith
+add-x2 : tie.Need-add-x2
+add-x2 c = omega arith
 
-loop-again : tie.Need-loop-again Inv-loop μ-loop
-loop-again c =
-    let turn = c .before .before .before .before .before .before in
-    let start = turn .before .before .before in (
-      omega arith,
-      pushing-turn (start .args .from) (start .args .to) _ _ _ _ _ _ _ _ _ _ (start .pre .0 .1 .1) (omega arith, omega arith) (omega arith, omega arith)
-          (omega arith) (omega (arith, turn .loop .inv .1 .grown .sized)) (c .before .window .ensures) (turn .loop .inv .1),
-    )
+mul-x2 : tie.Need-mul-x2
+mul-x2 c = omega arith
 
-same-length : tie.Need-same-length Inv-loop μ-loop
-same-length c = c .before .loop .inv .1 .grown .sized
+shared-slice-read-x2 : tie.Need-shared-slice-read-x2
+shared-slice-read-x2 c = omega arith
 
-returns : tie.Need-returns Inv-loop μ-loop
+window-requires-4 : tie.Need-window-requires-4
+window-requires-4 c κs = omega arith
+
+add-x3 : tie.Need-add-x3
+add-x3 c = omega arith
+
+mul-x3 : tie.Need-mul-x3
+mul-x3 c = omega arith
+
+shared-slice-read-x3 : tie.Need-shared-slice-read-x3
+shared-slice-read-x3 c = omega arith
+
+join-four-requires : tie.Need-join-four-requires
+join-four-requires c κs = omega arith
+
+same-length : tie.Need-same-length
+same-length c = search needs
+
+returns : tie.Need-returns
 returns c =
-    let known = c .before .before .before in
+    let joined = c .before .before in
+    let last = joined .before .before .before in
+    let third = last .before .before in
+    let second = third .before .before in
+    let first = second .before .before in
+    let known = first .before .before .before .before .before .before .before in
     let a = known .before .args in
-    let i = c .before .loop .inv in (
-      push-done (a .l .now) _ (a .k .now) (a .from) (a .to) (a .m) (a .span) (a .block) _ _ _ _ _ _
-          (λ j. omega (arith, known .slice-known .given j)) (omega arith) (omega arith) (omega arith) (omega arith)
-          (omega arith) (omega arith) (omega arith) (omega arith) (omega arith) (i .1),
-      i .1 .grown,
-    )
+    let asked = known .before .pre in
+    push-done (a .l .now) _ (a .k .now) (a .from) (a .to) (a .m) (a .span) (a .block)
+    (a .from * rowWords + a .block * blockWords + (blockTicks - a .span) / 64) (a .to * rowWords + a .block * blockWords + blockWords) (a .m * blockWords)
+    ((blockTicks - a .span) % 64) _ _ _ _ _ (λ j. omega (arith, known .slice-known .given j)) (omega arith) (omega arith) (omega arith) (omega arith)
+    (omega arith) (omega arith) (omega arith) (first .window .ensures) (second .window2 .ensures) (third .window3 .ensures) (last .window4 .ensures)
+    (joined .join-four .ensures .0) (joined .join-four .ensures .1)
 
 pub push-spec : {M : Type 1} → statement M
 push-spec =
     tie.close
     (tie.spec
-    Inv-loop
-    μ-loop
     mul-a
     mul-a-2
     add-a
@@ -145,26 +165,35 @@ push-spec =
     add-b-2
     mul-c
     sub-r
-    loop-holds
-    add-old
-    mul-old
-    slice-read-old
-    add-window
-    mul-window
-    slice-read-window
-    add-window-2
-    add-window-3
-    mul-window-2
-    slice-read-window-2
+    mul-w0
+    slice-read-w0
+    add-w1
+    mul-w1
+    slice-read-w1
+    add-w2
+    mul-w2
+    slice-read-w2
+    add-w3
+    mul-w3
+    slice-read-w3
+    add-w4
+    mul-w4
+    slice-read-w4
     window-requires
-    add-new
-    mul-new
-    shared-slice-read-new
-    add-l
-    mul-l
-    slice-write-l
-    add-i
-    loop-less
-    loop-again
+    mul-x0
+    shared-slice-read-x0
+    window-requires-2
+    add-x1
+    mul-x1
+    shared-slice-read-x1
+    window-requires-3
+    add-x2
+    mul-x2
+    shared-slice-read-x2
+    window-requires-4
+    add-x3
+    mul-x3
+    shared-slice-read-x3
+    join-four-requires
     same-length
     returns)
