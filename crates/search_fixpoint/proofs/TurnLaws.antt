@@ -13,7 +13,7 @@ use Rattle.search_sizes.specs.Sizes.{stateRows, motionRows}
 use Rattle.search_ticks.specs.Rows.{Words, total, has}
 use Rattle.search_ticks.proofs.RowLaws.{zeros-at, total-bound}
 use Rattle.search_site.specs.Arrays.{fromAt, Leads}
-use Rattle.search_step.specs.Sets.{Closed, Within, Right, Ready}
+use Rattle.search_step.specs.Sets.{Closed, Within, TablesRight, RowsReady}
 use Rattle.search_lists.specs.Lists.{Listed}
 use Rattle.search_spread.specs.Spread.{Stepped, Tried, StillTried, Progress, more, quiet, UnnotedBut}
 use Rattle.search_fixpoint.specs.Turns.{NoneGrown, inTurn}
@@ -26,7 +26,7 @@ abbrev pub allNoted : List ℕ
 allNoted = replicate stateRows 1
 
 module _ (n k : ℕ) (st mv sw : List ℕ) (g : ℕ → ℕ → Bool) (b : ℕ) where
-  ready-start : (al : List ℕ) → Ready g k b mv sw noneKnown al
+  ready-start : (al : List ℕ) → RowsReady g k b mv sw noneKnown al
   ready-start al m lt known i h = absurd (known (zeros-at motionRows m))
 
   tried-start : (l : List ℕ) → n ≤ stateRows → Tried n k st mv sw g b allNoted (has l)
@@ -40,7 +40,7 @@ module _ (n k : ℕ) (st mv sw : List ℕ) (g : ℕ → ℕ → Bool) (b : ℕ) 
 -- all steps from the start on are done, and no growth is noted
 pub settled : {cells n k b : ℕ} {st mv sw tab al₀ l₀ known al l : List ℕ} (ls noted : List ℕ) → n ≤ stateRows → Leads n k mv → NoneGrown n noted
     → Stepped cells n k b st mv sw tab noneKnown al₀ l₀ known al l (λ g. Closed n k st mv sw g b) (StillTried n k st mv sw ls b allNoted l₀ noted l)
-    → (g : ℕ → ℕ → Bool) → Right g cells n k b st mv sw tab → Listed 0 k mv ls → Within (Closed n k st mv sw g b) l₀ l × Closed n k st mv sw g b (has l)
+    → (g : ℕ → ℕ → Bool) → TablesRight g cells n k b st mv sw tab → Listed 0 k mv ls → Within (Closed n k st mv sw g b) l₀ l × Closed n k st mv sw g b (has l)
 settled {n = n} {k = k} {b = b} {st = st} {mv = mv} {sw = sw} {al₀ = al₀} {l₀ = l₀} {l = l} ls noted few leads none steps g right all =
     let (ready, (within, tried)) = steps .right g right (ready-start n k st mv sw g b al₀) in
     (within, tried-closed n k st mv sw g b noted l leads none (tried all (tried-start n k st mv sw g b l₀ few)))

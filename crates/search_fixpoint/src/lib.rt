@@ -11,7 +11,7 @@ ghost use Rattle.search_sizes.specs.Sizes.{blockWords, blocks, rowWords, stateR
 ghost use Rattle.search_ticks.specs.Rows.{has};
 ghost use Rattle.search_site.specs.Arrays.{States, Motions, CellsBelow, Leads};
 ghost use Rattle.search_site.specs.Decoded.{Sweeps};
-ghost use Rattle.search_step.specs.Sets.{Closed, Within, Kept, Room, Right};
+ghost use Rattle.search_step.specs.Sets.{Closed, Within, Kept, Room, TablesRight};
 ghost use Rattle.search_lists.specs.Lists.{Listed};
 ghost use Rattle.search_spread.specs.Spread.{Stepped, StillTried, Progress};
 ghost use Rattle.search_fixpoint.specs.Turns.{NoneGrown, inTurn};
@@ -113,7 +113,7 @@ pub fn settle(
     requires { ⌜ (k * blockWords ≤ length (now allowed)) × (n * rowWords ≤ length (now reached)) ⌝ }
     ensures { λ _. ⌜ Kept block (now (reached .entry)) (now (reached .exit)) ⌝ }
     ensures { λ _. ⌜ length (now (allowed .exit)) ≡ length (now (allowed .entry)) ⌝ }
-    ensures { λ _. ⌜ ((g : ℕ → ℕ → Bool) → Right g cells n k block (now (states .entry)) (now (motions .entry)) (now (sweeps .entry)) (now (tab .entry))
+    ensures { λ _. ⌜ ((g : ℕ → ℕ → Bool) → TablesRight g cells n k block (now (states .entry)) (now (motions .entry)) (now (sweeps .entry)) (now (tab .entry))
         → Listed 0 k (now (motions .entry)) (now (lists .entry))
         → Within (Closed n k (now (states .entry)) (now (motions .entry)) (now (sweeps .entry)) g block) (now (reached .entry)) (now (reached .exit))
         × Closed n k (now (states .entry)) (now (motions .entry)) (now (sweeps .entry)) g block (has (now (reached .exit)))) ⌝ }

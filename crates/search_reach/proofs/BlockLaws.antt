@@ -23,7 +23,7 @@ use Rattle.search_free.specs.Frees.{FreeBlock}
 use Rattle.search_runs.specs.Runs.{ended, runLength, tableOf, Shifted, Halves, Tables, Ahead, FirstTable}
 use Rattle.search_runs.proofs.EndedLaws.{ended-at}
 use Rattle.search_site.specs.Arrays.{spanAt}
-use Rattle.search_step.specs.Sets.{Room, Right}
+use Rattle.search_step.specs.Sets.{Room, TablesRight}
 use Rattle.search_reach.specs.Explored.{freeFrom, InArrays, Space}
 use Rattle.search_reach.proofs.RightLaws.{ends-free}
 
@@ -153,7 +153,7 @@ module _ (file board : List ℕ) (l : Sizes) (tables b first : ℕ) (ready : Rea
       (first-freed (siteOf file) (l .cells) (l .horizon) b first board tab₁ tab₂ (q .cells) (q .horizon) late freed)
 
   pub right-made : (st mv tab : List ℕ) (tab-size al re : ℕ) → InArrays file l st mv → Space l mv tables tab-size al re → Tables g (l .cells) tables b tab
-      → Right g (l .cells) (l .states) (l .motions) b st mv file tab
+      → TablesRight g (l .cells) (l .states) (l .motions) b st mv file tab
   right-made st mv tab tab-size al re arrays space right =
       record {
         tables = tables;

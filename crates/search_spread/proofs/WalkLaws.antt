@@ -15,7 +15,7 @@ use Rattle.search_sizes.specs.Sizes.{motionRows, blockTicks, blocks, windowTick
 use Rattle.search_ticks.specs.Rows.{has}
 use Rattle.search_ticks.proofs.BitLaws.{or-zero}
 use Rattle.search_site.specs.Arrays.{fromAt, toAt, spanAt, Motions}
-use Rattle.search_step.specs.Sets.{WaitClosed, MoveClosed, Below, Closed, Inside, Within, RowSet, Right, Ready}
+use Rattle.search_step.specs.Sets.{WaitClosed, MoveClosed, Below, Closed, Inside, Within, RowSet, TablesRight, RowsReady}
 use Rattle.search_lists.specs.Lists.{Chain}
 use Rattle.search_lists.proofs.ListLaws.{listed-on, end-from}
 use Rattle.search_lists.proofs.WalkLaws.{Along, along-start, along-next, along-last, along-end}
@@ -166,8 +166,8 @@ module _ {cells n k b : ℕ} {st mv sw tab : List ℕ} where
   -- one more motion, a
   pub walk-more : {known₀ al₀ l₀ noted₀ known al l noted : List ℕ} {P Q : (ℕ → ℕ → Bool) → Type 0} (known′ al′ l′ : List ℕ) (a to d : ℕ)
       → a < k → to ≡ toAt mv a → to < stateRows → RowSet b (toAt mv a) l l′ d → length al′ ≡ length al
-      → ((g : ℕ → ℕ → Bool) → Right g cells n k b st mv sw tab → Ready g k b mv sw known al
-      → Ready g k b mv sw known′ al′ × (Within (MoveClosed mv sw g b a) l l′ × MoveClosed mv sw g b a (has l′)))
+      → ((g : ℕ → ℕ → Bool) → TablesRight g cells n k b st mv sw tab → RowsReady g k b mv sw known al
+      → RowsReady g k b mv sw known′ al′ × (Within (MoveClosed mv sw g b a) l l′ × MoveClosed mv sw g b a (has l′)))
       → ((g : ℕ → ℕ → Bool) → RowSet b to l l′ d → to < length noted → MoveClosed mv sw g b a (has l′) → P g → Q g)
       → Walk cells n k b st mv sw tab known₀ al₀ l₀ noted₀ known al l noted P
       → Walk cells n k b st mv sw tab known₀ al₀ l₀ noted₀ known′ al′ l′ (note noted to d) Q
@@ -198,7 +198,7 @@ module _ {cells n k b : ℕ} {st mv sw tab : List ℕ} where
 
   -- the waits, and then the motions
   pub state-steps : {known al l known₂ al₂ l₂ : List ℕ} (l₁ noted noted₂ ls : List ℕ) (s d : ℕ) → b < blocks → n ≤ stateRows → s < n → RowSet b s l l₁ d
-      → ((g : ℕ → ℕ → Bool) (k : ℕ) (mv sw : List ℕ) → Right g cells n k b st mv sw tab → Within (WaitClosed st g b s) l l₁ × WaitClosed st g b s (has l₁))
+      → ((g : ℕ → ℕ → Bool) (k : ℕ) (mv sw : List ℕ) → TablesRight g cells n k b st mv sw tab → Within (WaitClosed st g b s) l l₁ × WaitClosed st g b s (has l₁))
       → Stepped cells n k b st mv sw tab known al l₁ known₂ al₂ l₂ (λ g. Below (MoveClosed mv sw g b) k) (MovesTried k mv sw ls b s l₂ noted₂)
       → Noted l₁ (set noted s 0) l₂ noted₂
       → Stepped cells n k b st mv sw tab known al l known₂ al₂ l₂ (λ g. Closed n k st mv sw g b) (StillTried n k st mv sw ls b noted l noted₂ l₂)

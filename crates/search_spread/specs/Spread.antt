@@ -8,7 +8,7 @@ use lib.ListN.{length, getD}
 use Rattle.search_sizes.specs.Sizes.{rowTicks, stateRows}
 use Rattle.search_ticks.specs.Rows.{has, total}
 use Rattle.search_site.specs.Arrays.{fromAt}
-use Rattle.search_step.specs.Sets.{Pairs, WaitClosed, MoveClosed, Within, Kept, Right, Ready}
+use Rattle.search_step.specs.Sets.{Pairs, WaitClosed, MoveClosed, Within, Kept, TablesRight, RowsReady}
 use Rattle.search_lists.specs.Lists.{Listed}
 
 -- Some steps from l₀ to l, which work out rows of motions where they need them: where the tables are right for g, the rows stay right, the
@@ -16,7 +16,7 @@ use Rattle.search_lists.specs.Lists.{Listed}
 pub record Stepped (cells n k b : ℕ) (st mv sw tab known₀ al₀ l₀ known al l : List ℕ) (C : (ℕ → ℕ → Bool) → Pairs → Type 0) (Q : (ℕ → ℕ → Bool) → Type 0) : Type 0 where
   pub kept : Kept b l₀ l
   pub sized : length al ≡ length al₀
-  pub right : (g : ℕ → ℕ → Bool) → Right g cells n k b st mv sw tab → Ready g k b mv sw known₀ al₀ → Ready g k b mv sw known al × (Within (C g) l₀ l × Q g)
+  pub right : (g : ℕ → ℕ → Bool) → TablesRight g cells n k b st mv sw tab → RowsReady g k b mv sw known₀ al₀ → RowsReady g k b mv sw known al × (Within (C g) l₀ l × Q g)
 
 -- the motions from s are closed
 abbrev pub MovesClosed : ℕ → List ℕ → List ℕ → (ℕ → ℕ → Bool) → ℕ → ℕ → Pairs → Type 0

@@ -15,7 +15,7 @@ use Rattle.search_ticks.specs.Rows.{at, has, Grown, Changed, pushed, waited, fi
 use Rattle.search_ticks.proofs.RowLaws.{grown-start}
 use Rattle.search_runs.specs.Runs.{ended, runLength}
 use Rattle.search_site.specs.Arrays.{cellAt, speedAt, fromAt, toAt, spanAt}
-use Rattle.search_step.specs.Sets.{Pairs, WaitClosed, endsAt, MoveClosed, Inside, Within, Kept, RowSet, Right, RowReady, Ready}
+use Rattle.search_step.specs.Sets.{Pairs, WaitClosed, endsAt, MoveClosed, Inside, Within, Kept, RowSet, TablesRight, RowReady, RowsReady}
 
 -- ---- tests
 
@@ -89,7 +89,7 @@ unfolding ended runLength
 run-one g u = let same : u - 0 ≡ u = omega arith in and-true (g (u - 0)) ∙ ap g same
 
 -- the first rows have the free positions of each cell
-pub free-row : {g : ℕ → ℕ → Bool} {cells n k b : ℕ} {st mv sw tab : List ℕ} → Right g cells n k b st mv sw tab
+pub free-row : {g : ℕ → ℕ → Bool} {cells n k b : ℕ} {st mv sw tab : List ℕ} → TablesRight g cells n k b st mv sw tab
     → (c j : ℕ) → c < cells → j < windowTicks → at tab (c * windowTicks + j) ≡ g c (blockTicks * b + j)
 free-row {g = g} {cells = cells} {b = b} {tab = tab} r c j h lt =
     let row : c ≡ 0 * cells + c = omega arith in
@@ -148,7 +148,7 @@ module _ (mv l l′ al : List ℕ) (b m from to span : ℕ) (small : b < blocks)
         (ap₂ (λ (x y : Bool). x && y) (sym (changed .others from (blockStart b + i - span) apart (omega arith)) ∙ on) (ready i lt ∙ may)))
 
 -- where no push could set anything new
-pub quiet-closed : {g : ℕ → ℕ → Bool} {cells n k b : ℕ} {st mv sw tab : List ℕ} → Right g cells n k b st mv sw tab
+pub quiet-closed : {g : ℕ → ℕ → Bool} {cells n k b : ℕ} {st mv sw tab : List ℕ} → TablesRight g cells n k b st mv sw tab
     → (l : List ℕ) (m from to span cell : ℕ) → m < k → from ≡ fromAt mv m → to ≡ toAt mv m → span ≡ spanAt mv m → cell ≡ cellAt st to → cell < cells
     → ((i : ℕ) → i < blockTicks → has l from (blockStart b + i - span) ≡ true → at tab (cell * windowTicks + blockTicks + i) ≡ true → has l to (blockStart b + i) ≡ true)
     → MoveClosed mv sw g b m (has l)
@@ -164,7 +164,7 @@ quiet-closed {g = g} {b = b} {st = st} {mv = mv} {sw = sw} {tab = tab} r l m fro
 -- the row of motion m is worked out
 pub ready-more : (g : ℕ → ℕ → Bool) (k b m : ℕ) (mv sw known al al′ : List ℕ)
     → ((x i : ℕ) → (x ≡ m → ⊥) → i < blockTicks → at al′ (x * blockTicks + i) ≡ at al (x * blockTicks + i))
-    → RowReady g b mv sw al′ m → Ready g k b mv sw known al → Ready g k b mv sw (set known m 1) al′
+    → RowReady g b mv sw al′ m → RowsReady g k b mv sw known al → RowsReady g k b mv sw (set known m 1) al′
 ready-more g k b m mv sw known al al′ others here ready x lt marked i h =
     decide (eqb x m)
     (λ u. rw (eqb-true x m u) (here i h))
@@ -175,7 +175,7 @@ ready-more g k b m mv sw known al al′ others here ready x lt marked i h =
 -- the row of motion m is right after al and known have changed to al′ and known′
 pub record Prepared (cells n k b m : ℕ) (st mv sw tab known al known′ al′ : List ℕ) : Type 0 where
   pub sized : length al′ ≡ length al
-  pub rows : (g : ℕ → ℕ → Bool) → Right g cells n k b st mv sw tab → Ready g k b mv sw known al → Ready g k b mv sw known′ al′ × RowReady g b mv sw al′ m
+  pub rows : (g : ℕ → ℕ → Bool) → TablesRight g cells n k b st mv sw tab → RowsReady g k b mv sw known al → RowsReady g k b mv sw known′ al′ × RowReady g b mv sw al′ m
 
 -- it was known before
 pub prepared-known : (cells n k b m : ℕ) (st mv sw tab known al known′ al′ : List ℕ) → m < k → (getD known m 0 ≡ 0 → ⊥) → al′ ≡ al → known′ ≡ known
@@ -258,7 +258,7 @@ module _ (l l′ tab : List ℕ) (b s c : ℕ) (small : b < blocks) (changed : C
       ap (has l′ s) (next-place j) ∙ changed .here j h
       ∙ or-right (has l s (blockStart b + j)) (run (suc j)) (run-next j q (set-run j h e p))
 
-  module _ (g : ℕ → ℕ → Bool) (cells n k : ℕ) (st mv sw : List ℕ) (right : Right g cells n k b st mv sw tab)
+  module _ (g : ℕ → ℕ → Bool) (cells n k : ℕ) (st mv sw : List ℕ) (right : TablesRight g cells n k b st mv sw tab)
       (is-cell : c ≡ cellAt st s) (known-cell : c < cells) (stands : speedAt st s ≡ 0) where
     free-at : (j : ℕ) → j ≤ blockTicks → free j ≡ g (cellAt st s) (blockTicks * b + 255 + j)
     free-at j h =

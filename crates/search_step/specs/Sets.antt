@@ -72,7 +72,7 @@ pub record Room (cells k : ℕ) (mv tab : List ℕ) : Type 0 where
   pub rows : (m : ℕ) → m < k → (tableOf (suc (spanAt mv m)) * cells + cells) * windowWords < length tab
 
 -- they are right for block b; and a motion ends only where the cell of its end is free
-pub record Right (g : ℕ → ℕ → Bool) (cells n k b : ℕ) (st mv sw tab : List ℕ) : Type 0 where
+pub record TablesRight (g : ℕ → ℕ → Bool) (cells n k b : ℕ) (st mv sw tab : List ℕ) : Type 0 where
   pub tables : ℕ
   pub some : 1 ≤ tables
   pub enough : (m : ℕ) → m < k → tableOf (suc (spanAt mv m)) < tables
@@ -84,5 +84,5 @@ abbrev pub RowReady : (ℕ → ℕ → Bool) → ℕ → List ℕ → List ℕ �
 RowReady g b mv sw al m = (i : ℕ) → i < blockTicks → at al (m * blockTicks + i) ≡ endsAt mv sw g m (blockStart b + i)
 
 -- so have the rows of all motions that are known
-abbrev pub Ready : (ℕ → ℕ → Bool) → ℕ → ℕ → List ℕ → List ℕ → List ℕ → List ℕ → Type 0
-Ready g k b mv sw known al = (m : ℕ) → m < k → (getD known m 0 ≡ 0 → ⊥) → RowReady g b mv sw al m
+abbrev pub RowsReady : (ℕ → ℕ → Bool) → ℕ → ℕ → List ℕ → List ℕ → List ℕ → List ℕ → Type 0
+RowsReady g k b mv sw known al = (m : ℕ) → m < k → (getD known m 0 ≡ 0 → ⊥) → RowReady g b mv sw al m

@@ -9,7 +9,7 @@ ghost use Rattle.search_ticks.specs.Rows.{has};
 ghost use Rattle.search_sizes.specs.Sizes.{blockWords, blocks, rowWords, windowWords};
 ghost use Rattle.search_site.specs.Arrays.{toAt, States, Motions, CellsBelow, Leads};
 ghost use Rattle.search_site.specs.Decoded.{Sweeps};
-ghost use Rattle.search_step.specs.Sets.{WaitClosed, MoveClosed, Within, RowSet, Room, Right, RowReady, Ready};
+ghost use Rattle.search_step.specs.Sets.{WaitClosed, MoveClosed, Within, RowSet, Room, TablesRight, RowReady, RowsReady};
 
 // Sets what waits in state s reach. Answers 0 where nothing was new.
 pub fn wait_one(
@@ -24,7 +24,7 @@ pub fn wait_one(
     requires { ⌜ States n (now states) × (CellsBelow cells n (now states) × (s < n)) ⌝ }
     requires { ⌜ (cells * windowWords ≤ length (now tab)) × ((n * rowWords ≤ length (now reached)) × (block < blocks)) ⌝ }
     ensures { λ d. ⌜ RowSet block s (now (reached .entry)) (now (reached .exit)) d ⌝ }
-    ensures { λ _. ⌜ ((g : ℕ → ℕ → Bool) (k : ℕ) (mv sw : List ℕ) → Right g cells n k block (now (states .entry)) mv sw (now (tab .entry))
+    ensures { λ _. ⌜ ((g : ℕ → ℕ → Bool) (k : ℕ) (mv sw : List ℕ) → TablesRight g cells n k block (now (states .entry)) mv sw (now (tab .entry))
         → Within (WaitClosed (now (states .entry)) g block s) (now (reached .entry)) (now (reached .exit))
         × WaitClosed (now (states .entry)) g block s (has (now (reached .exit)))) ⌝ }
 {
@@ -49,9 +49,9 @@ fn prepare(
     requires { ⌜ Motions k (now motions) × (Sweeps cells k (now motions) (now sweeps) × (m < k)) ⌝ }
     requires { ⌜ Room cells k (now motions) (now tab) × (k * blockWords ≤ length (now allowed)) ⌝ }
     ensures { λ _. ⌜ length (now (allowed .exit)) ≡ length (now (allowed .entry)) ⌝ }
-    ensures { λ _. ⌜ ((g : ℕ → ℕ → Bool) (n block : ℕ) (st : List ℕ) → Right g cells n k block st (now (motions .entry)) (now (sweeps .entry)) (now (tab .entry))
-        → Ready g k block (now (motions .entry)) (now (sweeps .entry)) (now (known .entry)) (now (allowed .entry))
-        → Ready g k block (now (motions .entry)) (now (sweeps .entry)) (now (known .exit)) (now (allowed .exit))
+    ensures { λ _. ⌜ ((g : ℕ → ℕ → Bool) (n block : ℕ) (st : List ℕ) → TablesRight g cells n k block st (now (motions .entry)) (now (sweeps .entry)) (now (tab .entry))
+        → RowsReady g k block (now (motions .entry)) (now (sweeps .entry)) (now (known .entry)) (now (allowed .entry))
+        → RowsReady g k block (now (motions .entry)) (now (sweeps .entry)) (now (known .exit)) (now (allowed .exit))
         × RowReady g block (now (motions .entry)) (now (sweeps .entry)) (now (allowed .exit)) m) ⌝ }
 {
     let place = search_site::place_of(motions, k, m);
@@ -81,9 +81,9 @@ pub fn move_one(
     requires { ⌜ (k * blockWords ≤ length (now allowed)) × (n * rowWords ≤ length (now reached)) ⌝ }
     ensures { λ d. ⌜ RowSet block (toAt (now (motions .entry)) m) (now (reached .entry)) (now (reached .exit)) d ⌝ }
     ensures { λ _. ⌜ length (now (allowed .exit)) ≡ length (now (allowed .entry)) ⌝ }
-    ensures { λ _. ⌜ ((g : ℕ → ℕ → Bool) → Right g cells n k block (now (states .entry)) (now (motions .entry)) (now (sweeps .entry)) (now (tab .entry))
-        → Ready g k block (now (motions .entry)) (now (sweeps .entry)) (now (known .entry)) (now (allowed .entry))
-        → Ready g k block (now (motions .entry)) (now (sweeps .entry)) (now (known .exit)) (now (allowed .exit))
+    ensures { λ _. ⌜ ((g : ℕ → ℕ → Bool) → TablesRight g cells n k block (now (states .entry)) (now (motions .entry)) (now (sweeps .entry)) (now (tab .entry))
+        → RowsReady g k block (now (motions .entry)) (now (sweeps .entry)) (now (known .entry)) (now (allowed .entry))
+        → RowsReady g k block (now (motions .entry)) (now (sweeps .entry)) (now (known .exit)) (now (allowed .exit))
         × (Within (MoveClosed (now (motions .entry)) (now (sweeps .entry)) g block m) (now (reached .entry)) (now (reached .exit))
         × MoveClosed (now (motions .entry)) (now (sweeps .entry)) g block m (has (now (reached .exit))))) ⌝ }
 {
