@@ -7,6 +7,7 @@ ghost use mathlib.Core.Path.{_≡_};
 ghost use mathlib.Core.Bool.{Bool};
 ghost use Prim.Native.Nat.{ℕ, suc, _+_, _-_, _*_, _≤_, _<_};
 ghost use lib.ListN.{length};
+ghost use Rattle.meaning.specs.Limits.{cellLimit};
 ghost use Rattle.search_sizes.specs.Sizes.{blockWords, blockTicks, windowWords, windowTicks, blockStart, spanLimit};
 ghost use Rattle.search_ticks.specs.Rows.{at, Put};
 ghost use Rattle.search_runs.specs.Runs.{ended, tableOf, Tables};
@@ -32,7 +33,7 @@ fn narrow(x: &mut [u64; BLOCK_WORDS], tab: &[u64], r: usize, back: usize)
 // A sweep of more than eight ticks: two runs, one up to its end and one from its beginning on.
 fn narrow_long(x: &mut [u64; BLOCK_WORDS], tab: &[u64], cells: usize, w: Sweep, span: usize)
     requires { ⌜ (w .first ≤ w .last) × ((w .last ≤ span) × (span ≤ spanLimit)) ⌝ }
-    requires { ⌜ (w .cell < cells) × ((cells ≤ 255) × ((tableOf (suc (w .last) - w .first) * cells + cells) * windowWords < length (now tab))) ⌝ }
+    requires { ⌜ (w .cell < cells) × ((cells ≤ cellLimit) × ((tableOf (suc (w .last) - w .first) * cells + cells) * windowWords < length (now tab))) ⌝ }
     requires { ⌜ 8 ≤ w .last - w .first ⌝ }
     ensures { λ _. ⌜ ((g : ℕ → ℕ → Bool) (tables b : ℕ) → tableOf (suc (w .last) - w .first) < tables → Tables g cells tables b (now (tab .entry))
         → Narrowed (now (x .entry)) (now (x .exit)) (λ i. ended (g (w .cell)) (suc (w .last) - w .first) (blockStart b + i - (span - w .last)))) ⌝ }
@@ -48,7 +49,7 @@ fn narrow_long(x: &mut [u64; BLOCK_WORDS], tab: &[u64], cells: usize, w: Sweep, 
 // Keeps of x the ticks at which a motion may end whose sweep is w.
 fn narrow_sweep(x: &mut [u64; BLOCK_WORDS], tab: &[u64], cells: usize, w: Sweep, span: usize)
     requires { ⌜ (w .first ≤ w .last) × ((w .last ≤ span) × (span ≤ spanLimit)) ⌝ }
-    requires { ⌜ (w .cell < cells) × ((cells ≤ 255) × ((tableOf (suc (w .last) - w .first) * cells + cells) * windowWords < length (now tab))) ⌝ }
+    requires { ⌜ (w .cell < cells) × ((cells ≤ cellLimit) × ((tableOf (suc (w .last) - w .first) * cells + cells) * windowWords < length (now tab))) ⌝ }
     ensures { λ _. ⌜ ((g : ℕ → ℕ → Bool) (tables b : ℕ) → tableOf (suc (w .last) - w .first) < tables → Tables g cells tables b (now (tab .entry))
         → Narrowed (now (x .entry)) (now (x .exit)) (λ i. ended (g (w .cell)) (suc (w .last) - w .first) (blockStart b + i - (span - w .last)))) ⌝ }
 {
@@ -85,7 +86,7 @@ pub fn arrivals_of(
     span: usize,
 )
     requires { ⌜ (m * blockWords + blockWords ≤ length (now al)) × (SweepsIn cells span (now sweeps) place count × (span ≤ spanLimit)) ⌝ }
-    requires { ⌜ (cells ≤ 255) × ((tableOf (suc span) * cells + cells) * windowWords < length (now tab)) ⌝ }
+    requires { ⌜ (cells ≤ cellLimit) × ((tableOf (suc span) * cells + cells) * windowWords < length (now tab)) ⌝ }
     ensures { λ _. ⌜ length (now (al .exit)) ≡ length (now (al .entry)) ⌝ }
     ensures { λ _. ⌜ ((x i : ℕ) → (x ≡ m → ⊥) → i < blockTicks → at (now (al .exit)) (x * blockTicks + i) ≡ at (now (al .entry)) (x * blockTicks + i)) ⌝ }
     ensures { λ _. ⌜ ((g : ℕ → ℕ → Bool) (tables b : ℕ) → tableOf (suc span) < tables → Tables g cells tables b (now (tab .entry))

@@ -10,7 +10,7 @@ use Rattle.meaning.specs.Site.{Site, siteOf}
 use Rattle.meaning.specs.Board.{Free}
 use Rattle.meaning.specs.Plan.{node, canUnload}
 use Rattle.site.specs.declared.Sizes.{Sizes}
-use Rattle.search_sizes.specs.Sizes.{blockTicks, blockWords, windowWords, rowWords, blockStart}
+use Rattle.search_sizes.specs.Sizes.{blockTicks, blockWords, windowWords, rowWords, blockStart, tableLimit}
 use Rattle.search_runs.specs.Runs.{runTables, tableOf}
 use Rattle.search_site.specs.Arrays.{spanAt, States, Motions, CellsBelow, Leads}
 use Rattle.search_site.specs.Decoded.{Sweeps, Decoded}
@@ -34,7 +34,7 @@ pub record Space (l : Sizes) (mv : List ℕ) (tables tab-size allowed-size reach
   pub few : tables ≤ runTables
   pub enough : (m : ℕ) → m < l .motions → tableOf (suc (spanAt mv m)) < tables
   pub tab : tables * l .cells * windowWords < tab-size
-  pub small : tab-size < 65536
+  pub small : tab-size < tableLimit
   pub allowed : l .motions * blockWords ≤ allowed-size
   pub reached : l .states * rowWords ≤ reached-size
 

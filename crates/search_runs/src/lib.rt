@@ -6,7 +6,7 @@ ghost use mathlib.Core.Path.{_≡_};
 ghost use mathlib.Core.Bool.{Bool};
 ghost use Prim.Native.Nat.{ℕ, _+_, _*_, _≤_, _<_};
 ghost use lib.ListN.{length};
-ghost use Rattle.search_sizes.specs.Sizes.{blockTicks, windowWords, windowTicks};
+ghost use Rattle.search_sizes.specs.Sizes.{blockTicks, windowWords, windowTicks, tableLimit};
 ghost use Rattle.search_ticks.specs.Rows.{at, Put};
 ghost use Rattle.search_runs.specs.Runs.{runTables, runLength, tableOf, Shifted, longer, Halves, FirstTable, Tables};
 
@@ -101,7 +101,7 @@ fn longer_row(tab: &mut [u64], r: usize, q: usize, back: usize)
 // Table t from the one before it, for every cell.
 fn longer_runs(tab: &mut [u64], cells: usize, t: usize)
     requires { ⌜ (1 ≤ t) × ((t < runTables) × ((t + 1) * cells * windowWords ≤ length (now tab))) ⌝ }
-    requires { ⌜ length (now tab) < 65536 ⌝ }
+    requires { ⌜ length (now tab) < tableLimit ⌝ }
     ensures { λ _. ⌜ length (now (tab .exit)) ≡ length (now (tab .entry)) ⌝ }
     ensures { λ _. ⌜ ((g : ℕ → ℕ → Bool) (tables b : ℕ) → t < tables → Halves g cells tables b (now (tab .entry)) → Tables g cells t b (now (tab .entry))
         → Halves g cells tables b (now (tab .exit)) × Tables g cells (t + 1) b (now (tab .exit))) ⌝ }
@@ -117,7 +117,7 @@ fn longer_runs(tab: &mut [u64], cells: usize, t: usize)
 // The tables of a block, from the first one and what is kept of the block before.
 pub fn fill_runs(tab: &mut [u64], cells: usize, tables: usize)
     requires { ⌜ (1 ≤ tables) × ((tables ≤ runTables) × (tables * cells * windowWords ≤ length (now tab))) ⌝ }
-    requires { ⌜ length (now tab) < 65536 ⌝ }
+    requires { ⌜ length (now tab) < tableLimit ⌝ }
     ensures { λ _. ⌜ length (now (tab .exit)) ≡ length (now (tab .entry)) ⌝ }
     ensures { λ _. ⌜ ((g : ℕ → ℕ → Bool) (b : ℕ) → Halves g cells tables b (now (tab .entry)) → FirstTable g cells b (now (tab .entry))
         → Tables g cells tables b (now (tab .exit))) ⌝ }

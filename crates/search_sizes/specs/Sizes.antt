@@ -75,3 +75,7 @@ middleRows = 1024
 
 abbrev pub middleMotions : ℕ
 middleMotions = 1024
+
+-- more words than any tables of runs have, so that no place in them is out of range
+abbrev pub tableLimit : ℕ
+tableLimit = 65536

@@ -6,6 +6,7 @@ use mathlib.Core.Path.{_≡_}
 use mathlib.Core.Bool.{Bool, true}
 use mathlib.Core.List.{List}
 use lib.ListN.{length, getD}
+use Rattle.meaning.specs.Limits.{cellLimit}
 use Rattle.search_sizes.specs.Sizes.{blockTicks, rowTicks, windowWords, blockStart}
 use Rattle.search_ticks.specs.Rows.{at, has, Grown}
 use Rattle.search_runs.specs.Runs.{tableOf, Tables}
@@ -67,7 +68,7 @@ pub record RowSet (b s : ℕ) (l₀ l : List ℕ) (d : ℕ) : Type 0 where
 
 -- the tables have the rows that k motions need
 pub record Room (cells k : ℕ) (mv tab : List ℕ) : Type 0 where
-  pub few : cells ≤ 255
+  pub few : cells ≤ cellLimit
   pub first : cells * windowWords ≤ length tab
   pub rows : (m : ℕ) → m < k → (tableOf (suc (spanAt mv m)) * cells + cells) * windowWords < length tab
 
