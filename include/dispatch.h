@@ -38,7 +38,7 @@
     X(DISPATCH_ACCEPTED, 0, "accepted")                                                                                     \
     X(DISPATCH_SITE_TOO_LONG, 1, "the site file has more than 65,536 bytes")                                                \
     X(DISPATCH_SITE_CUT, 2, "a field of the site file runs past the file's end")                                            \
-    X(DISPATCH_SITE_HEAD, 3, "the site file does not begin with a head of 5 bytes with H, C and S in range")                \
+    X(DISPATCH_SITE_HEAD, 3, "the site file does not begin with a head of 6 bytes with H, C, S and m in range")             \
     X(DISPATCH_SITE_LAYOUT, 4, "the site file's states or motions have a wrong tag, length, order or number")               \
     X(DISPATCH_STATE_CELL, 5, "a state of the site names a cell that the hall does not have")                               \
     X(DISPATCH_MOTION, 6, "a motion of the site breaks a rule on its values or sweeps")                                     \
@@ -52,7 +52,7 @@
     X(DISPATCH_AREA_SHORT, 14, "a lent area is too short")                                                                  \
     X(DISPATCH_LAST_EDITION, 15, "the board is at its last edition, 4,294,967,295")                                         \
     X(DISPATCH_STALE_LIGHT, 16, "the light was made from another edition of the board")                                     \
-    X(DISPATCH_CONFLICT, 17, "a wanted cell is held then, or the light is not a valid plan to its goal and arrival")        \
+    X(DISPATCH_CONFLICT, 17, "a wanted cell is held or near a tug, or the light is no valid plan to its goal and arrival")  \
     X(DISPATCH_NO_PLAN, 18, "no valid plan exists")                                                                         \
     X(DISPATCH_TOO_FAR, 19, "the distance is above 511 decimetres")
 
@@ -78,13 +78,14 @@ static inline const char *dispatch_text(int number) {
 #define DISPATCH_LENGTH(word) ((size_t)((word) >> 8 & 0xffffff))     /* of dispatch_route: bytes of the light */
 #define DISPATCH_ARRIVAL(word) ((uint32_t)((word) >> 32))            /* of dispatch_route */
 
-/* The last tick H, the number of cells C and the number of states S, as the head of a site file has them. They are read
- * from its first 8 bytes, and are in range once a call has accepted the file. So size the board by them, open it, and then
- * size the other areas: a board by a faulty head has at most 17 MB, and the call refuses it. A file of fewer bytes is
- * refused whatever the board is, a null pointer and 0 included. */
+/* The last tick H, the number of cells C, the number of states S and the margin m, as the head of a site file has them. They
+ * are read from its first 9 bytes, and are in range once a call has accepted the file. So size the board by them, open it,
+ * and then size the other areas: a board by a faulty head has at most 17 MB, and the call refuses it. A file of fewer bytes
+ * is refused whatever the board is, a null pointer and 0 included. */
 #define DISPATCH_SITE_H(site) ((size_t)((site)[3] << 8 | (site)[4]))
 #define DISPATCH_SITE_C(site) ((size_t)(site)[5])
 #define DISPATCH_SITE_S(site) ((size_t)((site)[6] << 8 | (site)[7]))
+#define DISPATCH_SITE_M(site) ((size_t)(site)[8])
 
 /* The edition of a board: how often it has changed. */
 #define DISPATCH_EDITION(board) \
@@ -96,10 +97,11 @@ static inline const char *dispatch_text(int number) {
 #define DISPATCH_WORK_WORDS(H, S) ((size_t)(S) * ((size_t)(H) + 1))  /* of dispatch_route: work */
 #define DISPATCH_INTERVAL_NUMBERS(H) ((size_t)(H) + 2)               /* of dispatch_interval: out */
 
-/* The largest H, C and S, the largest site file and the longest light, in bytes: enough for areas that serve every site. */
+/* The largest H, C, S and m, the largest site file and the longest light, in bytes: enough for areas that serve every site. */
 #define DISPATCH_MOST_H 1000
 #define DISPATCH_MOST_C 255
 #define DISPATCH_MOST_S 256
+#define DISPATCH_MOST_M 20
 #define DISPATCH_MOST_SITE_BYTES 65536
 #define DISPATCH_MOST_LIGHT_BYTES 5018
 
@@ -116,7 +118,8 @@ extern "C" {
 uint64_t dispatch_open(const uint8_t *site, size_t site_len, uint8_t *board, size_t board_len);
 
 /* Writes the first and the last tick of each safe interval of the cell into out, in rising order. A safe interval is a run
- * of free ticks that can't be lengthened. out has at least DISPATCH_INTERVAL_NUMBERS; later numbers stay. */
+ * of free ticks that can't be lengthened; a cell is free at a tick if nobody holds it from m ticks earlier to m later. out
+ * has at least DISPATCH_INTERVAL_NUMBERS; later numbers stay. */
 uint64_t dispatch_interval(const uint8_t *site, size_t site_len, const uint8_t *board, size_t board_len,
                            uint16_t cell, uint16_t *out, size_t out_len);
 
@@ -140,7 +143,7 @@ uint64_t dispatch_post(const uint8_t *site, size_t site_len, uint8_t *board, siz
                        const uint8_t *light, size_t light_len);
 
 /* Closes a cell: writes the closure, 200 to 254, over the cell's ticks first to last, both included, and adds 1 to the
- * edition. */
+ * edition. Nobody may hold these ticks, and no tug the cell within m ticks of them; closures may touch each other. */
 uint64_t dispatch_close(const uint8_t *site, size_t site_len, uint8_t *board, size_t board_len,
                         uint8_t holder, uint16_t cell, uint16_t first, uint16_t last);
 

@@ -6,11 +6,13 @@ fn motion(from: u16, to: u16, d: u8, sweeps: &[(u8, u8, u8)]) -> Motion {
     Motion { from, to, d, sweeps: sweeps.iter().map(|&(cell, a, b)| Sweep { cell, a, b }).collect() }
 }
 
-pub fn site() -> Site {
+/// The hall with a margin. Its own is 0.
+pub fn with_margin(margin: usize) -> Site {
     let states = [(0, 0), (1, 1), (1, 0), (2, 1), (3, 0)];
     Site {
         h: 12,
         c: 4,
+        margin,
         states: states.iter().map(|&(cell, speed)| State { cell, speed }).collect(),
         motions: vec![
             motion(0, 1, 2, &[(0, 0, 1), (1, 1, 2)]),
@@ -20,6 +22,10 @@ pub fn site() -> Site {
             motion(2, 3, 2, &[(1, 0, 1), (2, 1, 2)]),
         ],
     }
+}
+
+pub fn site() -> Site {
+    with_margin(0)
 }
 
 pub fn bytes() -> Vec<u8> {

@@ -1,7 +1,7 @@
 //! Seeded generators: sites, damaged files, boards, lights and calls.
 
-use crate::literal::{encode, encode_fields, number, put, with_head, Light, Motion, Site, State, Step, Sweep, MAX_DWELL};
-use crate::plain;
+use crate::literal::{encode, encode_fields, number, put, with_head, Light, Motion, Site, State, Step, Sweep, MAX_DWELL, MAX_MARGIN};
+use crate::{literal_desk, plain};
 
 /// A small generator of numbers (splitmix64), so that a seed gives the same run everywhere.
 #[derive(Clone)]
@@ -117,7 +117,18 @@ pub fn motion_between(rng: &mut Rng, c: usize, states: &[State], from: usize, to
     Motion { from: from as u16, to: to as u16, d: d as u8, sweeps: all }
 }
 
-fn row_site(rng: &mut Rng) -> Site {
+/// A margin: often none, else mostly a small one or the largest.
+pub fn any_margin(rng: &mut Rng) -> usize {
+    match rng.below(10) {
+        0..=2 => 0,
+        3 | 4 => 1,
+        5 | 6 => 2,
+        7 | 8 => MAX_MARGIN,
+        _ => rng.range(1, MAX_MARGIN),
+    }
+}
+
+fn row_site(rng: &mut Rng, margin: usize, more: usize) -> Site {
     let c = rng.range(2, 9);
     let mut states = Vec::new();
     for cell in 0..c as u8 {
@@ -148,21 +159,24 @@ fn row_site(rng: &mut Rng) -> Site {
     for i in (1..motions.len()).rev() {
         motions.swap(i, rng.below(i + 1));
     }
-    Site { h: rng.range(8, 60), c, states, motions }
+    Site { h: rng.range(8, 60) + more, c, margin, states, motions }
 }
 
 pub fn site(rng: &mut Rng, size: Size) -> Site {
-    let (h, c, s, m) = match size {
-        Size::Row => return row_site(rng),
-        Size::Tiny => (rng.range(1, 12), rng.range(1, 4), rng.range(1, 4), rng.below(9)),
-        Size::Small => (rng.range(5, 40), rng.range(1, 9), rng.range(2, 10), rng.range(1, 30)),
+    let margin = any_margin(rng);
+    // With a wide margin tugs and closures get past each other only if they have more ticks.
+    let more = rng.pick(&[0, 2, 4]) * margin;
+    let (h, c, s, most_motions) = match size {
+        Size::Row => return row_site(rng, margin, more),
+        Size::Tiny => (rng.range(1, 12) + more, rng.range(1, 4), rng.range(1, 4), rng.below(9)),
+        Size::Small => (rng.range(5, 40) + more, rng.range(1, 9), rng.range(2, 10), rng.range(1, 30)),
         Size::Long => (rng.range(300, 500), rng.range(1, 4), rng.range(1, 5), rng.below(12)),
         Size::Middle => (rng.range(60, 200), rng.range(3, 40), rng.range(10, 90), rng.range(30, 240)),
         Size::Large => (rng.pick(&[1_000, 1_000, 999, 960]), rng.pick(&[255, 254, 40]), rng.pick(&[256, 255, 65]), rng.pick(&[2_000, 1_999, 1_200])),
     };
     let states: Vec<State> = (0..s).map(|_| State { cell: rng.below(c) as u8, speed: if rng.percent(60) { 0 } else { rng.pick(&[1, 1, 2, 255]) } }).collect();
     let mut motions = Vec::new();
-    while motions.len() < m && s > 1 {
+    while motions.len() < most_motions && s > 1 {
         let d = match rng.below(20) {
             0 => rng.pick(&[63, 64, 65, 127, 128, 254, 255]),
             1..=3 => rng.range(1, 20),
@@ -171,7 +185,7 @@ pub fn site(rng: &mut Rng, size: Size) -> Site {
         let sweeps = if size == Size::Large { rng.range(1, 6) } else { rng.pick(&[1, 2, 2, 2, 3, 3, 4, 5, 8, 15, 16]) };
         motions.push(motion(rng, c, &states, d.min(255), sweeps));
     }
-    let mut site = Site { h, c, states, motions };
+    let mut site = Site { h, c, margin, states, motions };
     if size == Size::Large && rng.percent(60) {
         fill_up(rng, &mut site);
     }
@@ -259,22 +273,23 @@ pub fn damaged(rng: &mut Rng, site: &Site, faults: &[u8]) -> Vec<u8> {
 
 fn damage_head(rng: &mut Rng, fields: &mut Vec<(u8, Vec<u8>)>) {
     let head = &mut fields[0].1;
-    match rng.below(12) {
+    match rng.below(16) {
         0 => head[..2].copy_from_slice(&[0, 0]),
         1 => head[..2].copy_from_slice(&1_001u16.to_be_bytes()),
         2 => head[..2].copy_from_slice(&[255, 255]),
         3 => head[2] = 0,
-        4 => head[3..].copy_from_slice(&[0, 0]),
-        5 => head[3..].copy_from_slice(&257u16.to_be_bytes()),
+        4 => head[3..5].copy_from_slice(&[0, 0]),
+        5 => head[3..5].copy_from_slice(&257u16.to_be_bytes()),
         6 => head[3] = 255,
-        7 => {
-            head.pop();
-        }
-        8 => head.push(0),
-        9 => fields[0].0 = rng.pick(&[0, 2, 3, 16, 255]),
-        10 => {
+        // Without the margin, as it was before.
+        7 => head.truncate(5),
+        8 => head.truncate(4),
+        9 => head.push(0),
+        10 => fields[0].0 = rng.pick(&[0, 2, 3, 16, 255]),
+        11 => {
             fields.remove(0);
         }
+        12..=14 => head[5] = rng.pick(&[21, 21, 22, 32, 128, 255]),
         _ => fields.clear(),
     }
 }
@@ -391,9 +406,9 @@ pub fn board(rng: &mut Rng, site: &Site) -> Vec<u8> {
     };
     bytes[..4].copy_from_slice(&edition.to_be_bytes());
     let any = rng.draw() as u8;
-    let holders: Vec<u8> = (0..rng.range(1, 4)).map(|_| rng.pick(&[1, 7, 198, 199, 200, 201, 254, 255, any])).collect();
+    let holders: Vec<u8> = (0..rng.range(1, 4)).map(|_| rng.pick(&[1, 7, 198, 199, 200, 201, 254, 255, 255, any])).collect();
     let ticks = site.h + 1;
-    match rng.below(10) {
+    match rng.below(12) {
         0 => {}
         1 => {
             let all = rng.bytes(site.c * ticks);
@@ -406,6 +421,14 @@ pub fn board(rng: &mut Rng, site: &Site) -> Vec<u8> {
                 if rng.percent(share) {
                     *byte = rng.pick(&holders);
                 }
+            }
+        }
+        6 | 7 => {
+            // Few enough for a wide margin.
+            for cell in 0..site.c {
+                let (first, holder) = (rng.below(ticks), rng.pick(&holders));
+                let last = (first + rng.below(3)).min(site.h);
+                bytes[4 + cell * ticks..][first..=last].fill(holder);
             }
         }
         _ => {
@@ -545,6 +568,38 @@ impl Caller<'_> {
         0
     }
 
+    /// A cell and a tick just within the margin of a run of held ticks or just past it, before or behind the run, if a few looks find one.
+    fn beside_held(&self, rng: &mut Rng, board: &[u8]) -> Option<(usize, usize)> {
+        let ticks = self.site.h + 1;
+        if board.len() != self.site.board_len() {
+            return None;
+        }
+        let mut looks = (0..40).map(|_| rng.below(board.len() - 4));
+        let at = looks.find(|&at| board[4 + at] != 0)?;
+        let (cell, held) = (at / ticks, at % ticks);
+        let row = &board[4 + cell * ticks..][..ticks];
+        let away = self.site.margin + rng.pick(&[0, 0, 1, 2]);
+        let tick = if rng.percent(50) {
+            held + row[held..].iter().take_while(|&&byte| byte != 0).count() - 1 + away
+        } else {
+            (held + 1).checked_sub(row[..=held].iter().rev().take_while(|&&byte| byte != 0).count() + away)?
+        };
+        (tick < ticks).then_some((cell, tick))
+    }
+
+    /// A start state and tick, sometimes in a cell that is held nearby.
+    fn start(&self, rng: &mut Rng, board: &[u8], bad: usize) -> (u16, u16) {
+        if rng.percent(15) {
+            if let Some((cell, tick)) = self.beside_held(rng, board) {
+                let here: Vec<usize> = (0..self.site.states.len()).filter(|&state| self.site.cell(state) == cell).collect();
+                if !here.is_empty() {
+                    return (rng.pick(&here) as u16, tick as u16);
+                }
+            }
+        }
+        (near(rng, self.site.states.len(), bad / 2), self.start_tick(rng, bad / 2))
+    }
+
     fn start_tick(&self, rng: &mut Rng, bad: usize) -> u16 {
         let early = rng.below(1 + self.site.h / 3) as u16;
         if rng.percent(60) {
@@ -556,27 +611,31 @@ impl Caller<'_> {
 
     /// The arrival and light of a route on this board, if it is granted.
     fn ask(&self, board: &[u8], tug: u8, start: u16, tick: u16, goal: u16, dwell: u16) -> Option<(u16, Vec<u8>)> {
+        self.ask_with(self.file, board, tug, start, tick, goal, dwell)
+    }
+
+    #[allow(clippy::too_many_arguments)]
+    fn ask_with(&self, file: &[u8], board: &[u8], tug: u8, start: u16, tick: u16, goal: u16, dwell: u16) -> Option<(u16, Vec<u8>)> {
         let mut out = vec![0; self.site.output_len()];
         let mut work = vec![0; self.site.states.len() * (self.site.h + 1)];
-        let answer = plain::route(self.file, board, tug, start, tick, goal, dwell, &mut out, &mut work);
+        let answer = plain::route(file, board, tug, start, tick, goal, dwell, &mut out, &mut work);
         out.truncate(answer.value as usize);
         (answer.number == 0).then_some((answer.arrival as u16, out))
     }
 
     /// The longest dwell that a state's cell has room for from a tick on.
     fn stay(&self, board: &[u8], state: u16, tick: u16) -> usize {
-        let ticks = self.site.h + 1;
         if board.len() != self.site.board_len() || state as usize >= self.site.states.len() {
             return 0;
         }
-        let row = &board[4 + self.site.cell(state as usize) * ticks..][..ticks];
-        row.iter().skip(tick as usize + 1).take_while(|&&byte| byte == 0).count()
+        let (free, cell) = (literal_desk::free(self.site, board), self.site.cell(state as usize));
+        (tick as usize + 1..=self.site.h).take_while(|&at| free(cell, at)).count()
     }
 
     fn route(&self, rng: &mut Rng, board: &[u8], bad: usize) -> Call {
         let (s, h) = (self.site.states.len(), self.site.h);
         let tug = self.holder(rng, board, (1, 199), bad);
-        let (start, tick) = (near(rng, s, bad / 2), self.start_tick(rng, bad / 2));
+        let (start, tick) = self.start(rng, board, bad);
         let goal = if rng.percent(95 - bad) { self.standing_state(rng) } else { near(rng, s, bad) };
         let mut dwell = dwell(rng, h.saturating_sub(tick as usize), bad);
         if rng.percent(35) {
@@ -595,9 +654,9 @@ impl Caller<'_> {
     /// A light whose states join: waits and motions as they come, mostly with the right goal and arrival.
     fn walk(&self, rng: &mut Rng, board: &[u8], bad: usize) -> Light {
         let site = self.site;
-        let mut state = rng.below(site.states.len());
-        let tick = self.start_tick(rng, bad);
-        let (start, mut at) = (state as u16, tick as usize);
+        let (start, tick) = self.start(rng, board, bad);
+        let start = start.min(site.states.len() as u16 - 1);
+        let (mut state, mut at) = (start as usize, tick as usize);
         let mut steps = Vec::new();
         for _ in 0..rng.below(9) {
             let after_wait = matches!(steps.last(), Some(Step::Wait(_)));
@@ -629,6 +688,12 @@ impl Caller<'_> {
         let tug = rng.range(1, 199) as u8;
         let (start, tick, goal) = (rng.below(s) as u16, rng.below(1 + h / 2) as u16, self.standing_state(rng));
         let dwell = dwell(rng, h - tick as usize, 0);
+        if self.site.margin > 0 && rng.percent(50) {
+            // As if the margin were smaller, so that the light may come too near to others.
+            let margin = rng.pick(&[self.site.margin - 1, self.site.margin - 1, self.site.margin - 1, 0]);
+            let file = encode(&Site { margin, ..self.site.clone() });
+            return self.ask_with(&file, board, tug, start, tick, goal, dwell).map(|granted| granted.1);
+        }
         let (arrival, bytes) = self.ask(board, tug, start, tick, goal, dwell)?;
         if rng.percent(80) {
             return Some(bytes);
@@ -768,6 +833,13 @@ impl Caller<'_> {
                 return Call::Close { holder: self.holder(rng, board, (200, 254), bad), cell: self.site.cell(light.goal as usize) as u16, first, last };
             }
         }
+        if rng.percent(45) {
+            if let Some((cell, tick)) = self.beside_held(rng, board) {
+                let (first, last) = (tick.saturating_sub(rng.below(3)), (tick + rng.below(3)).min(self.site.h));
+                let (first, last) = rng.pick(&[(tick, tick), (first, tick), (tick, last)]);
+                return Call::Close { holder: self.holder(rng, board, (200, 254), bad), cell: cell as u16, first: first as u16, last: last as u16 };
+            }
+        }
         let first = near(rng, ticks, bad / 3);
         let last = if rng.percent(bad / 3) {
             rng.pick(&[first.wrapping_sub(1), 0, ticks as u16, 65_535])
@@ -804,13 +876,13 @@ impl Caller<'_> {
     /// Any call.
     pub fn any(&self, rng: &mut Rng, board: &[u8]) -> Call {
         let bad = badness(rng);
-        match rng.below(16) {
+        match rng.below(18) {
             0 => Call::Open,
             1 | 2 => self.interval(rng, bad),
             3..=6 => self.route(rng, board, bad),
             7 | 8 => Call::Audit { light: self.light(rng, board, bad) },
             9..=11 => Call::Post { light: self.light(rng, board, bad) },
-            12 | 13 => self.close(rng, board, bad),
+            12..=15 => self.close(rng, board, bad),
             _ => self.withdraw(rng, board, bad),
         }
     }

@@ -1,5 +1,7 @@
 //! The rules of docs/FORMATS.md as they read, with sets and plain loops. Nothing here is made fast, and nothing is taken from crates/meaning.
 
+use std::ops::RangeInclusive;
+
 #[derive(Clone, Copy, PartialEq, Eq, Debug)]
 pub struct State {
     pub cell: u8,
@@ -25,6 +27,8 @@ pub struct Motion {
 pub struct Site {
     pub h: usize,
     pub c: usize,
+    /// The ticks around a held one that are kept free of tugs.
+    pub margin: usize,
     pub states: Vec<State>,
     pub motions: Vec<Motion>,
 }
@@ -49,6 +53,9 @@ pub struct Light {
 
 /// The longest time at the goal that a route or a light may name, in ticks.
 pub const MAX_DWELL: u16 = 1_000;
+
+/// The largest margin of a site, in ticks.
+pub const MAX_MARGIN: usize = 20;
 
 /// Unsigned, high byte first.
 pub fn number(bytes: &[u8]) -> usize {
@@ -113,11 +120,11 @@ impl Site {
         }
         let all = fields(bytes).ok_or(2)?;
         let head = match all.first() {
-            Some(&(1, value)) if value.len() == 5 => value,
+            Some(&(1, value)) if value.len() == 6 => value,
             _ => return Err(3),
         };
-        let (h, c, s) = (number(&head[..2]), number(&head[2..3]), number(&head[3..]));
-        if !(1..=1_000).contains(&h) || !(1..=255).contains(&c) || !(1..=256).contains(&s) {
+        let (h, c, s, margin) = (number(&head[..2]), number(&head[2..3]), number(&head[3..5]), number(&head[5..]));
+        if !(1..=1_000).contains(&h) || !(1..=255).contains(&c) || !(1..=256).contains(&s) || !(0..=MAX_MARGIN).contains(&margin) {
             return Err(3);
         }
         let later = &all[1..];
@@ -146,7 +153,7 @@ impl Site {
         if motions.iter().any(|motion| !motion.well_formed(c, &states)) {
             return Err(6);
         }
-        Ok(Site { h, c, states, motions })
+        Ok(Site { h, c, margin, states, motions })
     }
 
     pub fn standing(&self, state: usize) -> bool {
@@ -164,6 +171,11 @@ impl Site {
     /// The bytes that a route's output area needs.
     pub fn output_len(&self) -> usize {
         18 + 5 * self.h
+    }
+
+    /// The ticks from m before a tick to m behind it, within 0 and H.
+    pub fn around(&self, tick: usize) -> RangeInclusive<usize> {
+        tick.saturating_sub(self.margin)..=(tick + self.margin).min(self.h)
     }
 
     /// The cell and tick pairs that a motion holds when it starts at a tick.
@@ -279,7 +291,7 @@ pub fn encode(site: &Site) -> Vec<u8> {
 /// The fields of a site's file, so that the generators can damage them one by one.
 pub fn encode_fields(site: &Site) -> Vec<(u8, Vec<u8>)> {
     let (h, s) = ((site.h as u16).to_be_bytes(), (site.states.len() as u16).to_be_bytes());
-    let mut all = vec![(1, vec![h[0], h[1], site.c as u8, s[0], s[1]])];
+    let mut all = vec![(1, vec![h[0], h[1], site.c as u8, s[0], s[1], site.margin as u8])];
     all.extend(site.states.iter().map(|state| (2, vec![state.cell, state.speed])));
     all.extend(site.motions.iter().map(|motion| {
         let mut value = Vec::new();

@@ -30,8 +30,15 @@ fn place(site: &Site, (cell, tick): Pair) -> usize {
     4 + cell * (site.h + 1) + tick
 }
 
-fn free<'a>(site: &'a Site, board: &'a [u8]) -> impl Fn(usize, usize) -> bool + 'a {
-    move |cell, tick| board[place(site, (cell, tick))] == 0
+/// What is free for a tug: no byte of the cell is held from m ticks earlier to m later.
+pub(crate) fn free<'a>(site: &'a Site, board: &'a [u8]) -> impl Fn(usize, usize) -> bool + 'a {
+    move |cell, tick| site.around(tick).all(|at| board[place(site, (cell, at))] == 0)
+}
+
+/// Whether a closure can't have a pair: it is held, or a tug has a byte in that cell within m ticks of it.
+fn kept_open(site: &Site, board: &[u8], (cell, tick): Pair) -> bool {
+    let byte = |at| board[place(site, (cell, at))];
+    byte(tick) != 0 || site.around(tick).any(|at| (1..=199).contains(&byte(at)))
 }
 
 fn stands(board: &[u8], holder: u8) -> bool {
@@ -128,7 +135,7 @@ pub fn close(file: &[u8], board: &mut [u8], holder: u8, cell: u16, first: u16, l
         refuse(12, stands(board, holder))?;
         refuse(15, edition(board) == u32::MAX)?;
         let pairs: Vec<Pair> = (first..=last).map(|tick| (cell as usize, tick as usize)).collect();
-        refuse(17, pairs.iter().any(|&(cell, tick)| !free(&site, board)(cell, tick)))?;
+        refuse(17, pairs.iter().any(|&pair| kept_open(&site, board, pair)))?;
         Ok((site, pairs))
     });
     answer(checked.map(|(site, pairs)| change(&site, board, holder, pairs)))

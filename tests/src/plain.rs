@@ -19,7 +19,9 @@ const MAX_DWELL: usize = 1_000;
 const LIGHT_HEAD: usize = 18;
 /// A light's step: tag, length, and a value of 2 bytes.
 const LIGHT_STEP: usize = 5;
-const HEAD: usize = 8;
+const MAX_MARGIN: usize = 20;
+/// A site's head: tag, length, and a value of 6 bytes.
+const HEAD: usize = 9;
 const STATE: usize = 5;
 
 fn be16(bytes: &[u8], at: usize) -> usize {
@@ -54,6 +56,7 @@ pub struct Site<'a> {
     pub h: usize,
     pub c: usize,
     pub s: usize,
+    pub(crate) margin: usize,
     pub(crate) motions: Vec<Motion>,
 }
 
@@ -71,11 +74,11 @@ impl<'a> Site<'a> {
             }
             at += 3 + be16(bytes, at + 1);
         }
-        if len == 0 || bytes[0] != 1 || be16(bytes, 1) != 5 {
+        if len == 0 || bytes[0] != 1 || be16(bytes, 1) != HEAD - 3 {
             return Err(3);
         }
-        let (h, c, s) = (be16(bytes, 3), bytes[5] as usize, be16(bytes, 6));
-        if h == 0 || h > 1_000 || c == 0 || s == 0 || s > 256 {
+        let (h, c, s, margin) = (be16(bytes, 3), bytes[5] as usize, be16(bytes, 6), bytes[8] as usize);
+        if h == 0 || h > 1_000 || c == 0 || s == 0 || s > 256 || margin > MAX_MARGIN {
             return Err(3);
         }
         let mut at = HEAD;
@@ -100,7 +103,7 @@ impl<'a> Site<'a> {
             });
             at += 3 + value;
         }
-        let site = Site { bytes, h, c, s, motions };
+        let site = Site { bytes, h, c, s, margin, motions };
         if (0..s).any(|state| site.cell(state) >= c) {
             return Err(5);
         }
@@ -181,9 +184,20 @@ impl<'a> Site<'a> {
         &board[at..at + self.h + 1]
     }
 
-    /// Whether a cell is free from one tick to another, both included.
+    /// A cell's bytes from one tick to another, both included, and those within the margin of them.
+    fn near<'b>(&self, board: &'b [u8], cell: usize, first: usize, last: usize) -> &'b [u8] {
+        &self.row(board, cell)[first.saturating_sub(self.margin)..=(last + self.margin).min(self.h)]
+    }
+
+    /// Whether a cell is free for a tug from one tick to another, both included.
     fn free(&self, board: &[u8], cell: usize, first: usize, last: usize) -> bool {
-        last <= self.h && self.row(board, cell)[first..=last].iter().all(|&byte| byte == 0)
+        last <= self.h && self.near(board, cell, first, last).iter().all(|&byte| byte == 0)
+    }
+
+    /// Whether a cell can be closed from one tick to another. Only tugs need the margin.
+    fn closable(&self, board: &[u8], cell: usize, first: usize, last: usize) -> bool {
+        let unheld = self.row(board, cell)[first..=last].iter().all(|&byte| byte == 0);
+        unheld && self.near(board, cell, first, last).iter().all(|&byte| byte == 0 || byte > 199)
     }
 }
 
@@ -240,13 +254,18 @@ pub fn interval(site: &[u8], board: &[u8], cell: u16, out: &mut [u16]) -> Answer
             tick += 1;
             continue;
         }
-        let first = tick;
+        let began = tick;
         while tick < site.h && row[tick + 1] == 0 {
             tick += 1;
         }
-        out[2 * count] = first as u16;
-        out[2 * count + 1] = tick as u16;
-        count += 1;
+        // What is held on either side of the run takes its margin off it.
+        let first = if began == 0 { 0 } else { began + site.margin };
+        let end = if tick == site.h { tick + 1 } else { (tick + 1).saturating_sub(site.margin) };
+        if first < end {
+            out[2 * count] = first as u16;
+            out[2 * count + 1] = end as u16 - 1;
+            count += 1;
+        }
         tick += 1;
     }
     Answer { number: 0, value: count as u32, arrival: 0 }
@@ -369,7 +388,7 @@ pub fn close(site: &[u8], board: &mut [u8], holder: u8, cell: u16, first: u16, l
             Err(12)
         } else if edition(board) == u32::MAX {
             Err(15)
-        } else if !site.free(board, cell, first, last) {
+        } else if !site.closable(board, cell, first, last) {
             Err(17)
         } else {
             Ok(site.h + 1)
@@ -559,6 +578,34 @@ fn transpose(block: &mut [u64; 64]) {
     }
 }
 
+/// The ticks of a word that are within a margin of a held one. The words have the held ticks, and those beside it are the ones before and after it.
+fn within_margin(before: u64, word: u64, after: u64, margin: usize) -> u64 {
+    // Bit j is the tick j - margin of the word, so a tick is in question for the bits from its own number on, 2 margin + 1 of them.
+    let mut held = before as u128 >> (64 - margin) | (word as u128) << margin | (after as u128) << (64 + margin);
+    let (mut ticks, wanted) = (1, 2 * margin + 1);
+    while ticks < wanted {
+        let more = ticks.min(wanted - ticks);
+        held |= held >> more;
+        ticks += more;
+    }
+    held as u64
+}
+
+/// Takes the ticks that are within a margin of a held one off a row of free ticks up to H.
+#[inline(never)]
+fn keep_margin(row: &mut Row, h: usize, margin: usize) {
+    let words = h / 64 + 1;
+    let mut held = row.map(|word| !word);
+    // Ticks past the horizon are not free, but nothing keeps away from them.
+    held[words - 1] &= !0 >> (63 - h % 64);
+    held[words] = 0;
+    let mut before = 0;
+    for i in 0..words {
+        row[i] &= !within_margin(before, held[i], held[i + 1], margin);
+        before = held[i];
+    }
+}
+
 impl Edges {
     fn new() -> Edges {
         Edges { edges: Vec::new(), at: Box::new([0; 257]) }
@@ -604,6 +651,9 @@ impl Starts {
             let mut rest = [1; 64];
             rest[..blocks.remainder().len()].copy_from_slice(blocks.remainder());
             *words.next().unwrap() = zero_bytes(&rest);
+        }
+        if site.margin > 0 {
+            self.runs[..site.c].iter_mut().for_each(|rows| keep_margin(&mut rows[0], site.h, site.margin));
         }
         self.levels.fill(1);
         self.known[..site.motions.len()].fill(0);
@@ -660,18 +710,23 @@ fn leads(site: &Site, starts: &mut Starts, reached: &[Set; 1_024 + BEFORE], edge
 /// The goal's cell, asked at rising ticks.
 struct Dock<'a> {
     row: &'a [u8],
+    margin: usize,
     /// No tick from the last one asked up to here is held, this one left out.
     held: usize,
 }
 
 impl Dock<'_> {
-    /// Whether the cell is free from a tick for the whole dwell. Each byte of the row is looked at once, over all calls.
+    /// Whether the cell, which is free at a tick, is free for the whole dwell from there. Each byte of the row is looked at once, over all calls.
     fn unloads(&mut self, tick: usize, dwell: usize) -> bool {
+        if tick + dwell >= self.row.len() {
+            return false;
+        }
+        let end = (tick + dwell + self.margin).min(self.row.len() - 1);
         self.held = self.held.max(tick);
-        while self.held <= tick + dwell && self.row.get(self.held) == Some(&0) {
+        while self.held <= end && self.row[self.held] == 0 {
             self.held += 1;
         }
-        self.held > tick + dwell
+        self.held > end
     }
 }
 
@@ -774,12 +829,12 @@ impl Search {
 
     /// The least tick at which the goal is reached and its cell stays free for the dwell.
     fn run(&mut self, site: &Site, board: &[u8], start: usize, tick: usize, goal: usize, dwell: usize) -> Option<usize> {
-        if site.row(board, site.cell(start))[tick] != 0 {
+        if !site.free(board, site.cell(start), tick, tick) {
             return None;
         }
         self.prepare(site, board, tick);
         insert(&mut self.reached[tick + BEFORE], start);
-        let mut dock = Dock { row: site.row(board, site.cell(goal)), held: 0 };
+        let mut dock = Dock { row: site.row(board, site.cell(goal)), margin: site.margin, held: 0 };
         if start == goal && dock.unloads(tick, dwell) {
             return Some(tick);
         }

@@ -4,6 +4,7 @@
 use crate::desk::Answer;
 use crate::literal::{Light, Site, MAX_DWELL};
 use std::collections::BTreeSet;
+use std::ops::RangeInclusive;
 
 type Pair = (usize, usize);
 
@@ -22,9 +23,21 @@ impl PlainBoard {
         self.entries.iter().any(|entry| entry.0 == holder)
     }
 
-    fn free(&self) -> impl Fn(usize, usize) -> bool {
-        let held: BTreeSet<Pair> = self.entries.iter().flat_map(|entry| entry.1.iter().copied()).collect();
-        move |cell, tick| !held.contains(&(cell, tick))
+    /// The pairs of the entries whose holder is one of some numbers.
+    fn held(&self, holders: RangeInclusive<u8>) -> BTreeSet<Pair> {
+        self.entries.iter().filter(|entry| holders.contains(&entry.0)).flat_map(|entry| entry.1.iter().copied()).collect()
+    }
+
+    /// Whether some of these pairs has this cell and a tick within m of this one.
+    fn within_margin(&self, pairs: &BTreeSet<Pair>, cell: usize, tick: usize) -> bool {
+        let around = self.site.around(tick);
+        pairs.range((cell, *around.start())..=(cell, *around.end())).next().is_some()
+    }
+
+    /// What is free for a tug.
+    fn free(&self) -> impl Fn(usize, usize) -> bool + '_ {
+        let held = self.held(1..=254);
+        move |cell, tick| !self.within_margin(&held, cell, tick)
     }
 
     fn add(&mut self, holder: u8, pairs: impl IntoIterator<Item = Pair>) {
@@ -114,8 +127,8 @@ impl PlainBoard {
         if self.n == u32::MAX {
             return Answer::plain(15);
         }
-        let free = self.free();
-        if (first..=last).any(|tick| !free(cell, tick)) {
+        let (held, tugs) = (self.held(1..=254), self.held(1..=199));
+        if (first..=last).any(|tick| held.contains(&(cell, tick)) || self.within_margin(&tugs, cell, tick)) {
             return Answer::plain(17);
         }
         self.add(holder, (first..=last).map(|tick| (cell, tick)));

@@ -33,10 +33,11 @@ impl Search<'_> {
         self.words[self.place(state, tick)] != UNREACHED
     }
 
-    /// Whether a cell is free from one tick to another, both included.
+    /// Whether a cell is free from one tick to another, both included, with the margin around them.
     fn free(&self, cell: usize, first: usize, last: usize) -> bool {
-        let row = 4 + cell * (self.site.h + 1);
-        last <= self.site.h && self.board[row + first..=row + last].iter().all(|&byte| byte == 0)
+        let (h, margin) = (self.site.h, self.site.margin);
+        let row = 4 + cell * (h + 1);
+        last <= h && self.board[row + first.saturating_sub(margin)..=row + (last + margin).min(h)].iter().all(|&byte| byte == 0)
     }
 
     /// Whether a motion may be made that ends at a tick, and its earlier pair is reached.

@@ -2,14 +2,15 @@
 //! With a fault named in the environment variable DESK_FAULT it is wrong in one way, and the tests must notice.
 
 use crate::desk::Answer;
-use crate::literal::{fields, number, put, with_head, Light, Site, Step, Sweep, MAX_DWELL};
+use crate::literal::{fields, number, put, with_head, Light, Site, Step, Sweep, MAX_DWELL, MAX_MARGIN};
 use std::sync::OnceLock;
 
 /// The faults: those of the specification ("Wrong desks" of docs/PROMISES.md), then smaller ones, then refusals of a call in the wrong order, then those of the day
 /// program with an empty script, then those of the time at the dock: the search, what is checked and held, number 10, layouts and areas, the
-/// day program; then those of where a sweep uses its cell; last those of the travel times.
+/// day program; then those of where a sweep uses its cell; then those of the travel times; last those of the margin: how far it reaches, whose bytes
+/// count, who asks for it, close's rule, what is written, and the head.
 #[rustfmt::skip]
-pub const FAULTS: [&str; 96] = [
+pub const FAULTS: [&str; 141] = [
     "earliest", "endpoints", "rolling", "swap", "no-plan", "empty-light", "first-step", "no-mark", "light-edition", "interval-end",
     "unmerged", "highest", "motion-first", "edition", "work-kept", "work-long", "tail", "refused-write", "low-byte", "unknown-free",
     "withdraw-edition", "interval-tail", "board-longer", "light-trailing", "stands-edition", "arrival",
@@ -25,6 +26,15 @@ pub const FAULTS: [&str; 96] = [
     "sweep-one-start", "sweep-one-end", "sweep-hull",
     "travel-late", "travel-short", "travel-limit-16", "travel-limit-14", "travel-gain-2", "travel-no-stop", "travel-more",
     "travel-512", "travel-511", "travel-cut-16", "travel-18", "travel-beside-19", "travel-in-arrival",
+    "margin-ignored", "margin-less", "margin-more", "margin-19", "margin-cut-16", "margin-after-only", "margin-before-only", "margin-ends",
+    "margin-over-rows", "margin-past-horizon", "margin-before-zero", "margin-word", "margin-block",
+    "margin-tugs-only", "margin-closures-free", "margin-unknown-free",
+    "margin-off-start", "margin-off-sweep", "margin-off-dwell", "margin-off-interval", "margin-off-route", "margin-off-light",
+    "margin-interval-empty",
+    "close-margin-none", "close-margin-less", "close-margin-more", "close-margin-before-only", "close-margin-after-only", "close-margin-first",
+    "close-margin-over-rows", "close-margin-closures", "close-margin-unknown", "close-margin-unheld", "close-margin-199", "close-margin-200",
+    "margin-posted", "margin-closed",
+    "margin-21", "margin-20", "margin-any", "margin-old-head", "margin-long-head", "margin-from-states", "margin-late", "margin-4",
 ];
 
 pub fn fault(name: &str) -> bool {
@@ -52,7 +62,7 @@ fn first(call: &str, checks: &[(u8, &dyn Fn() -> bool)]) -> Result<(), u8> {
 }
 
 fn enter(file: &[u8], board: &[u8]) -> Result<Site, u8> {
-    let site = match Site::read(file) {
+    let mut site = match Site::read(file) {
         Err(1) if fault("site-1-2") && fields(file).is_none() => Err(2),
         Err(2) if fault("site-2-3") && !file.is_empty() && file[0] != 1 => Err(3),
         Err(5) if fault("site-5-6") => Err(Site::read(&cells_within(file)).err().unwrap_or(5)),
@@ -67,13 +77,45 @@ fn enter(file: &[u8], board: &[u8]) -> Result<Site, u8> {
                 sweep[2] = sweep[2].max(other[2]);
             }
         }),
+        Err(3) => with_wrong_head(file),
+        Ok(site) if site.margin == MAX_MARGIN && fault("margin-20") => Err(3),
         other => other,
     }?;
+    site.margin = match site.margin {
+        _ if fault("margin-ignored") => 0,
+        m if fault("margin-less") => m.saturating_sub(1),
+        m if fault("margin-more") && m > 0 => m + 1,
+        m if fault("margin-19") => m.min(19),
+        m if fault("margin-cut-16") => m & 15,
+        _ if fault("margin-from-states") => site.states.len().min(MAX_MARGIN),
+        m => m,
+    };
     let fits = board.len() == site.board_len() || (fault("board-longer") && board.len() > site.board_len());
     if fits {
         Ok(site)
     } else {
         Err(7)
+    }
+}
+
+/// A file that is refused with 3, as the faults of the head have it.
+fn with_wrong_head(file: &[u8]) -> Result<Site, u8> {
+    let old_head = fault("margin-old-head") && file.starts_with(&[1, 0, 5]);
+    if old_head || (fault("margin-long-head") && file.starts_with(&[1, 0, 7])) {
+        return Site::read(&with_head(file, 6).unwrap());
+    }
+    if !file.starts_with(&[1, 0, 6]) || file[8] as usize <= MAX_MARGIN {
+        return Err(3);
+    }
+    let mut mended = file.to_vec();
+    mended[8] = 0;
+    let read = Site::read(&mended);
+    match file[8] {
+        21 if fault("margin-21") => read.map(|site| Site { margin: 21, ..site }),
+        m if fault("margin-any") => read.map(|site| Site { margin: m as usize, ..site }),
+        _ if fault("margin-late") => read.and(Err(3)),
+        _ if fault("margin-4") => Err(4),
+        _ => Err(3),
     }
 }
 
@@ -129,9 +171,53 @@ fn widened(file: &[u8], widen: impl Fn(&mut [u8], u8, &[u8])) -> Result<Site, u8
     Ok(site)
 }
 
-fn free(site: &Site, board: &[u8], cell: usize, tick: usize) -> bool {
+/// Whether a pair has no holder.
+fn unheld(site: &Site, board: &[u8], cell: usize, tick: usize) -> bool {
     let byte = board[4 + cell * (site.h + 1) + tick];
     byte == 0 || (byte == 255 && fault("unknown-free"))
+}
+
+/// Whether a pair is free for a tug.
+fn free(site: &Site, board: &[u8], cell: usize, tick: usize) -> bool {
+    if site.margin == 0 {
+        return unheld(site, board, cell, tick);
+    }
+    // Most pairs have nothing around them, and only these faults see something where there is nothing.
+    let around = &board[4 + cell * (site.h + 1)..][site.around(tick)];
+    let outside = fault("margin-over-rows") || fault("margin-past-horizon") || fault("margin-before-zero");
+    (around.iter().all(|&byte| byte == 0) && !outside) || (unheld(site, board, cell, tick) && !crowded(site, board, cell, tick))
+}
+
+/// The byte of a cell at a tick that may lie before 0 or past H, where there is none.
+fn byte_near(site: &Site, board: &[u8], cell: usize, tick: isize) -> u8 {
+    let at = 4 + (cell * (site.h + 1)) as isize + tick;
+    match tick {
+        _ if (0..=site.h as isize).contains(&tick) => board[at as usize],
+        _ if fault("margin-over-rows") && at >= 4 => board.get(at as usize).copied().unwrap_or(0),
+        _ if fault("margin-past-horizon") && tick > 0 => 200,
+        _ if fault("margin-before-zero") && tick < 0 => 200,
+        _ => 0,
+    }
+}
+
+/// Whether a byte within the margin keeps tugs from a pair.
+fn crowded(site: &Site, board: &[u8], cell: usize, tick: usize) -> bool {
+    let (margin, tick) = (site.margin as isize, tick as isize);
+    let before = if fault("margin-after-only") { 0 } else { margin };
+    let after = if fault("margin-before-only") { 0 } else { margin };
+    let keeps_away = |byte: u8| match byte {
+        0 => false,
+        200..=254 if fault("margin-closures-free") => false,
+        255 if fault("margin-unknown-free") || fault("unknown-free") => false,
+        200..=255 if fault("margin-tugs-only") => false,
+        _ => true,
+    };
+    let looked_at = |at: isize| {
+        !(fault("margin-ends") && at.abs_diff(tick) != site.margin)
+            && !(fault("margin-word") && at.div_euclid(64) != tick / 64)
+            && !(fault("margin-block") && at.div_euclid(256) != tick / 256)
+    };
+    (tick - before..=tick + after).any(|at| keeps_away(byte_near(site, board, cell, at)) && looked_at(at))
 }
 
 fn stands(board: &[u8], holder: u8) -> bool {
@@ -159,10 +245,13 @@ pub fn open(file: &[u8], board: &mut [u8]) -> Answer {
 }
 
 pub fn interval(file: &[u8], board: &[u8], cell: u16, out: &mut [u16]) -> Answer {
-    let site = match enter(file, board) {
+    let mut site = match enter(file, board) {
         Ok(site) => site,
         Err(number) => return Answer::plain(number),
     };
+    if fault("margin-off-interval") {
+        site.margin = 0;
+    }
     let cell = if fault("low-byte") { cell & 255 } else { cell } as usize;
     if let Err(number) = first("interval", &[(10, &|| cell >= site.c), (14, &|| out.len() < site.h + 2)]) {
         return Answer::plain(number);
@@ -170,6 +259,13 @@ pub fn interval(file: &[u8], board: &[u8], cell: u16, out: &mut [u16]) -> Answer
     let mut all = site.intervals(&|cell, tick| free(&site, board, cell, tick), cell);
     if fault("interval-end") && all.last().is_some_and(|last| last.0 as usize == site.h) {
         all.pop();
+    }
+    if fault("margin-interval-empty") {
+        // A run of unheld ticks of which the margin leaves nothing is written with its first tick.
+        let unheld = site.intervals(&|cell, tick| unheld(&site, board, cell, tick), cell);
+        let bare: Vec<(u16, u16)> = unheld.into_iter().filter(|run| !all.iter().any(|left| run.0 <= left.0 && left.1 <= run.1)).collect();
+        all.extend(bare.iter().map(|run| (run.0, run.0)));
+        all.sort_unstable();
     }
     for (i, &(first, last)) in all.iter().enumerate() {
         out[2 * i] = first;
@@ -188,6 +284,7 @@ fn rolling(site: &Site, state: u16) -> bool {
 
 fn motion_free(site: &Site, board: &[u8], k: usize, tick: usize) -> bool {
     let motion = &site.motions[k];
+    let free = if fault("margin-off-sweep") { unheld } else { free };
     tick + motion.d as usize <= site.h
         && motion.sweeps.iter().all(|w| {
             let (first, last) = (tick + w.a as usize, tick + w.b as usize);
@@ -202,6 +299,11 @@ fn may_wait(site: &Site, state: usize) -> bool {
     site.standing(state) || fault("rolling")
 }
 
+fn may_start(site: &Site, board: &[u8], state: usize, tick: usize) -> bool {
+    let free = if fault("margin-off-start") { unheld } else { free };
+    free(site, board, site.cell(state), tick)
+}
+
 /// Whether a dwell counts as too large.
 fn dwell_large(site: &Site, goal: u16, dwell: u16) -> bool {
     let limit = MAX_DWELL + fault("dwell-1001") as u16 - fault("dwell-1000") as u16;
@@ -214,6 +316,7 @@ fn unloads(site: &Site, board: &[u8], goal: usize, tick: usize, dwell: usize) ->
     let short = if fault("dwell-short") { 1 } else { 0 };
     let last = (tick + dwell + fault("dwell-long") as usize).saturating_sub(short).max(tick);
     let past = last > site.h && !fault("dwell-past-horizon");
+    let free = if fault("margin-off-dwell") { unheld } else { free };
     !past && (tick..=last.min(site.h)).all(|at| free(site, board, site.cell(goal), at))
 }
 
@@ -239,7 +342,7 @@ pub fn route(file: &[u8], board: &[u8], tug: u8, start: u16, tick: u16, goal: u1
         first("route", &checks)?;
         Ok(site)
     });
-    let site = match result {
+    let mut site = match result {
         Ok(site) => site,
         Err(number) => {
             if fault("refused-write") && number == 11 && !out.is_empty() {
@@ -248,6 +351,9 @@ pub fn route(file: &[u8], board: &[u8], tug: u8, start: u16, tick: u16, goal: u1
             return Answer::plain(number);
         }
     };
+    if fault("margin-off-route") {
+        site.margin = 0;
+    }
     let words = site.states.len() * (site.h + 1);
     let words = if fault("work-long") { work.len() } else { words };
     let dock = if fault("dwell-ignored-by-route") { 0 } else { dwell as usize };
@@ -283,7 +389,7 @@ fn search(site: &Site, board: &[u8], start: usize, tick: usize, goal: usize, dwe
     let unloads = |at: usize| unloads(site, board, goal, at, dwell);
     let is_free = |state: usize, at: usize| free(site, board, site.cell(state), at);
     let mut reached = vec![vec![false; site.states.len()]; site.h + 1];
-    if !is_free(start, tick) {
+    if !may_start(site, board, start, tick) {
         return None;
     }
     reached[tick][start] = true;
@@ -351,7 +457,10 @@ fn search(site: &Site, board: &[u8], start: usize, tick: usize, goal: usize, dwe
 }
 
 fn check(file: &[u8], board: &[u8], bytes: &[u8]) -> Result<(Site, Light, Vec<(usize, usize)>), u8> {
-    let site = enter(file, board)?;
+    let mut site = enter(file, board)?;
+    if fault("margin-off-light") {
+        site.margin = 0;
+    }
     let mut read = Light::read(bytes);
     if fault("light-trailing") && read.is_none() {
         read = (1..5).filter(|n| *n < bytes.len()).find_map(|n| Light::read(&bytes[..bytes.len() - n]));
@@ -387,7 +496,7 @@ fn check(file: &[u8], board: &[u8], bytes: &[u8]) -> Result<(Site, Light, Vec<(u
 /// The pairs of a valid plan, the start's first.
 fn held(site: &Site, board: &[u8], light: &Light) -> Option<Vec<(usize, usize)>> {
     let (mut s, mut t) = (light.start as usize, light.tick as usize);
-    if !free(site, board, site.cell(s), t) {
+    if !may_start(site, board, s, t) {
         return None;
     }
     let mut pairs = vec![(site.cell(s), t)];
@@ -436,12 +545,39 @@ pub fn audit(file: &[u8], board: &[u8], light: &[u8]) -> Answer {
 pub fn post(file: &[u8], board: &mut [u8], light: &[u8]) -> Answer {
     done(check(file, board, light).map(|(site, light, pairs)| {
         if !fault("no-mark") {
-            for (cell, tick) in pairs {
+            let around = |tick| if fault("margin-posted") { site.around(tick) } else { tick..=tick };
+            for (cell, tick) in pairs.into_iter().flat_map(|(cell, tick)| around(tick).map(move |at| (cell, at))) {
                 board[4 + cell * (site.h + 1) + tick] = light.tug;
             }
         }
         advance(board, 1 + fault("edition") as u32);
     }))
+}
+
+/// Whether a closure can't have a run of ticks of a cell.
+fn kept_open(site: &Site, board: &[u8], cell: usize, begin: usize, end: usize) -> bool {
+    let is_tug = |byte: u8| (1..=199).contains(&byte);
+    let margin = match site.margin {
+        _ if fault("close-margin-none") => 0,
+        m if fault("close-margin-less") => m.saturating_sub(1),
+        m if fault("close-margin-more") && m > 0 => m + 1,
+        m => m,
+    };
+    let before = if fault("close-margin-after-only") { 0 } else { margin };
+    let after = if fault("close-margin-before-only") { 0 } else { margin };
+    let row = 4 + cell * (site.h + 1);
+    let (low, high) = if fault("close-margin-over-rows") { (4, board.len() - 1) } else { (row, row + site.h) };
+    let first = (row + begin).saturating_sub(before).max(low);
+    let last = (row + if fault("close-margin-first") { begin } else { end } + after).min(high);
+    let keeps_open = |byte: u8| match byte {
+        199 if fault("close-margin-199") => false,
+        200 if fault("close-margin-200") => true,
+        200..=254 => fault("close-margin-closures"),
+        255 => fault("close-margin-unknown"),
+        byte => is_tug(byte),
+    };
+    let held = |tick: usize| if fault("close-margin-unheld") { is_tug(board[row + tick]) } else { !unheld(site, board, cell, tick) };
+    (begin..=end).any(held) || board[first..=last].iter().any(|&byte| keeps_open(byte))
 }
 
 pub fn close(file: &[u8], board: &mut [u8], holder: u8, cell: u16, first_tick: u16, last: u16) -> Answer {
@@ -454,12 +590,13 @@ pub fn close(file: &[u8], board: &mut [u8], holder: u8, cell: u16, first_tick: u
             (10, &|| large),
             (12, &|| stands(board, holder)),
             (15, &|| edition(board) == u32::MAX),
-            (17, &|| !large && (begin..=end).any(|tick| !free(&site, board, cell, tick))),
+            (17, &|| !large && kept_open(&site, board, cell, begin, end)),
         ];
         first("close", &checks)?;
         Ok(site)
     });
     done(result.map(|site| {
+        let (begin, end) = if fault("margin-closed") { (*site.around(begin).start(), *site.around(end).end()) } else { (begin, end) };
         board[4 + cell * (site.h + 1)..][begin..=end].fill(holder);
         advance(board, 1);
     }))

@@ -1,5 +1,5 @@
 //! Sites on which a search takes long, at the limits of a site file: 255 cells, 256 states, and as many motions or sweeps as the file can have. The
-//! routes in question lead from state 0 at tick 0 to the last state.
+//! routes in question lead from state 0 at tick 0 to the last state. The margin is 0.
 
 use crate::gen::Rng;
 use crate::literal::{Motion, Site, State, Sweep};
@@ -17,7 +17,7 @@ pub const NAMES: [&str; KINDS] = ["zigzag", "zigzag, a third held", "16 sweeps o
 
 fn site(speed: u8, last: State, motions: Vec<Motion>) -> Site {
     let states = (0..CELLS).map(|cell| State { cell: cell as u8, speed }).chain([last]).collect();
-    Site { h: H, c: CELLS, states, motions }
+    Site { h: H, c: CELLS, margin: 0, states, motions }
 }
 
 /// A motion of span 1 from the state of a cell to a state in another cell.

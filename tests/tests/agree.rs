@@ -5,11 +5,12 @@
 use dispatch_tests::desk::{self, Answer};
 use dispatch_tests::gen::{self, Call, Caller, Rng, Size, CALLS};
 use dispatch_tests::lent::{self, Area, Values};
-use dispatch_tests::literal::{encode, with_head, Light, Site, Step, MAX_DWELL};
+use dispatch_tests::literal::{encode, with_head, Light, Site, Step, MAX_DWELL, MAX_MARGIN};
 use dispatch_tests::plain_board::PlainBoard;
 use dispatch_tests::{plain, pull, run};
-use std::collections::BTreeMap;
+use std::collections::{BTreeMap, BTreeSet};
 use std::io::Write;
+use std::ops::RangeInclusive;
 use std::time::Instant;
 
 /// Bytes and numbers around each area that no call may touch.
@@ -66,6 +67,7 @@ struct Tally {
     calls: usize,
     pairs: BTreeMap<(usize, u8), usize>,
     docks: BTreeMap<Dock, usize>,
+    margins: BTreeMap<(usize, Apart), usize>,
 }
 
 /// What can happen with the time at the dock. Each must occur often, or the run shows too little of it.
@@ -161,6 +163,109 @@ fn docks(call: &Call, answer: &Answer, before: &Lent, left: &Lent) -> Vec<Dock> 
     seen.into_iter().filter(|dock| dock.1).map(|dock| dock.0).collect()
 }
 
+/// What can happen with the margin. Each must occur often on sites with each margin of `MARGINS`, or the run shows too little of it.
+#[derive(Clone, Copy, PartialEq, Eq, PartialOrd, Ord, Debug)]
+enum Apart {
+    /// With margin 0 the route is granted.
+    RouteRefused,
+    /// With margin 0 the route arrives earlier.
+    RouteLater,
+    /// With a margin one tick smaller the route is granted, or arrives earlier.
+    RouteByOneTick,
+    /// With margin 0 the light is accepted.
+    LightRefused,
+    /// With a margin one tick smaller the light is accepted.
+    LightByOneTick,
+    /// With margin 0 the close is accepted.
+    CloseRefused,
+    /// With a margin one tick smaller the close is accepted.
+    CloseByOneTick,
+    /// A closure is accepted that has another one within the margin, or byte 255.
+    CloseBesideClosure,
+    CloseBesideUnknown,
+    /// With margin 0 the cell has longer intervals, or more of them.
+    IntervalsShorter,
+    IntervalsFewer,
+    /// A list of calls leaves two tugs, or a tug and a closure, in one cell at ticks that differ by one more than the margin.
+    TugsNext,
+    ClosureNext,
+}
+
+const APARTS: [Apart; 13] = {
+    use Apart::*;
+    [
+        RouteRefused,
+        RouteLater,
+        RouteByOneTick,
+        LightRefused,
+        LightByOneTick,
+        CloseRefused,
+        CloseByOneTick,
+        CloseBesideClosure,
+        CloseBesideUnknown,
+        IntervalsShorter,
+        IntervalsFewer,
+        TugsNext,
+        ClosureNext,
+    ]
+};
+
+/// Margins of which much must be seen.
+const MARGINS: [usize; 3] = [1, 2, MAX_MARGIN];
+
+/// What a call shows of the site's margin: its answer beside the plain program's for smaller ones. A refused site file shows nothing.
+fn aparts(call: &Call, answer: &Answer, before: &Lent, left: &Lent) -> Vec<(usize, Apart)> {
+    let (ticks, margin) = match Site::read(before.site.all()) {
+        Ok(site) if site.margin > 0 && [0, 17, 18].contains(&answer.number) => (site.h + 1, site.margin),
+        _ => return vec![],
+    };
+    let with_margin = |margin: usize| {
+        let mut lent = before.clone();
+        lent.site.all_mut()[8] = margin as u8;
+        let answer = run!(plain, call, &mut lent);
+        (answer, lent.numbers)
+    };
+    let ((none, intervals), (less, _)) = (with_margin(0), with_margin(margin - 1));
+    let (refused, by_one_tick) = (answer.number != 0 && none.number == 0, answer.number != 0 && less.number == 0);
+    let earlier = |other: Answer| answer.number == 0 && other.arrival < answer.arrival;
+    let seen = match call {
+        Call::Route { .. } => {
+            vec![(Apart::RouteRefused, refused), (Apart::RouteLater, earlier(none)), (Apart::RouteByOneTick, by_one_tick || earlier(less))]
+        }
+        Call::Audit { .. } | Call::Post { .. } => vec![(Apart::LightRefused, refused), (Apart::LightByOneTick, by_one_tick)],
+        &Call::Close { cell, first, last, .. } => {
+            let row = before.board.all()[4..].chunks(ticks).nth(cell as usize).unwrap();
+            let near = &row[(first as usize).saturating_sub(margin)..(last as usize + margin + 1).min(row.len())];
+            let beside = |bytes: RangeInclusive<u8>| answer.number == 0 && near.iter().any(|byte| bytes.contains(byte));
+            vec![
+                (Apart::CloseRefused, refused),
+                (Apart::CloseByOneTick, by_one_tick),
+                (Apart::CloseBesideClosure, beside(200..=254)),
+                (Apart::CloseBesideUnknown, beside(255..=255)),
+            ]
+        }
+        Call::Interval { .. } => vec![(Apart::IntervalsShorter, left.numbers != intervals), (Apart::IntervalsFewer, answer.value < none.value)],
+        Call::Open | Call::Withdraw { .. } => vec![],
+    };
+    seen.into_iter().filter(|apart| apart.1).map(|apart| (margin, apart.0)).collect()
+}
+
+/// In each cell, the ticks of a tug and of any other holder differ by more than the margin. Gives those that differ by just one tick more.
+fn kept_apart(site: &Site, board: &[u8]) -> BTreeSet<Apart> {
+    let mut next = BTreeSet::new();
+    for row in board[4..].chunks(site.h + 1) {
+        let held: Vec<(usize, u8)> = row.iter().copied().enumerate().filter(|pair| pair.1 != 0).collect();
+        for (i, &(tick, holder)) in held.iter().enumerate() {
+            let later = held[i + 1..].iter().take_while(|other| other.0 - tick <= site.margin + 1);
+            for &(other_tick, other) in later.filter(|other| other.1 != holder && holder.min(other.1) < 200) {
+                assert!(other_tick - tick > site.margin, "{holder} at {tick} and {other} at {other_tick} in one cell, margin {}", site.margin);
+                next.insert(if holder.max(other) < 200 { Apart::TugsNext } else { Apart::ClosureNext });
+            }
+        }
+    }
+    next
+}
+
 impl Tally {
     /// Runs one call with the desk and with the plain program, and compares everything. Gives what was left.
     fn compare(&mut self, rng: &mut Rng, site: &[u8], board: &[u8], call: &Call) -> (Answer, Lent) {
@@ -194,6 +299,9 @@ impl Tally {
         *self.pairs.entry((call.kind(), answer.number)).or_default() += 1;
         for dock in docks(call, &answer, &before, &left) {
             *self.docks.entry(dock).or_default() += 1;
+        }
+        for apart in aparts(call, &answer, &before, &left) {
+            *self.margins.entry(apart).or_default() += 1;
         }
         (answer, left)
     }
@@ -290,6 +398,9 @@ impl Tally {
             };
             assert_eq!(answer, wanted, "seed {}, call {}: the answer of the plain board", self.seed, self.calls);
             assert!(board == model.bytes(), "seed {}, call {}: the board differs from the plain board", self.seed, self.calls);
+            for apart in kept_apart(&site, &board) {
+                *self.margins.entry((site.margin, apart)).or_default() += 1;
+            }
         }
     }
 }
@@ -306,7 +417,7 @@ fn desk_and_plain_program_agree() {
     writeln!(log, "agree: seed {seed}, {calls} calls").unwrap();
     let began = Instant::now();
     let mut rng = Rng::new(seed);
-    let mut tally = Tally { seed, calls: 0, pairs: BTreeMap::new(), docks: BTreeMap::new() };
+    let mut tally = Tally { seed, calls: 0, pairs: BTreeMap::new(), docks: BTreeMap::new(), margins: BTreeMap::new() };
     let mut round = 0;
     while tally.calls < calls {
         round += 1;
@@ -337,6 +448,10 @@ fn desk_and_plain_program_agree() {
     }
     let counts: Vec<String> = tally.docks.iter().map(|(dock, n)| format!("{dock:?}:{n}")).collect();
     writeln!(log, "agree: dwell    {}", counts.join(" ")).unwrap();
+    for margin in MARGINS {
+        let counts: Vec<String> = APARTS.iter().map(|apart| format!("{apart:?}:{}", tally.margins.get(&(margin, *apart)).unwrap_or(&0))).collect();
+        writeln!(log, "agree: margin {margin:2} {}", counts.join(" ")).unwrap();
+    }
     for pair in tally.pairs.keys() {
         assert!(gen::possible().contains(pair), "{} answers {}, which docs/FORMATS.md does not give it", CALLS[pair.0], pair.1);
     }
@@ -349,6 +464,10 @@ fn desk_and_plain_program_agree() {
         for dock in DOCKS {
             let times = tally.docks.get(&dock).copied().unwrap_or(0);
             assert!(times >= OFTEN, "{dock:?} occurs only {times} times, so the run shows too little");
+        }
+        for (margin, apart) in MARGINS.into_iter().flat_map(|margin| APARTS.map(|apart| (margin, apart))) {
+            let times = tally.margins.get(&(margin, apart)).copied().unwrap_or(0);
+            assert!(times >= OFTEN, "{apart:?} occurs only {times} times with margin {margin}, so the run shows too little");
         }
     }
 }

@@ -117,8 +117,10 @@ fn any_calls(site: &Site, calls: usize) {
 
 #[test]
 fn four_in_line() {
-    shift(&mut Rng::new(1), &four::site(), everywhere);
-    any_calls(&four::site(), 200);
+    for site in [0, 2].map(four::with_margin) {
+        shift(&mut Rng::new(1), &site, everywhere);
+        any_calls(&site, 200);
+    }
 }
 
 #[test]

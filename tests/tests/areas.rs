@@ -17,33 +17,34 @@ fn null_areas() {
         r#"
 #include <stdio.h>
 #include "include/dispatch.h"
-static const uint8_t site[100] = {{{}}};
+static const uint8_t site[] = {{{}}};
+enum {{ SITE = sizeof site }};
 static uint8_t board[56], light[78];
 static uint16_t numbers[14];
 static uint32_t work[65];
 static void say(uint64_t word) {{ printf("%d ", (int)word); }}
 int main(void) {{
     say(dispatch_open(0, 0, board, 56));
-    say(dispatch_open(site, 100, 0, 0));
+    say(dispatch_open(site, SITE, 0, 0));
     say(dispatch_interval(0, 0, board, 56, 0, numbers, 14));
-    say(dispatch_interval(site, 100, 0, 0, 0, numbers, 14));
-    say(dispatch_interval(site, 100, board, 56, 0, 0, 0));
+    say(dispatch_interval(site, SITE, 0, 0, 0, numbers, 14));
+    say(dispatch_interval(site, SITE, board, 56, 0, 0, 0));
     say(dispatch_route(0, 0, board, 56, 7, 0, 0, 4, 2, light, 78, work, 65));
-    say(dispatch_route(site, 100, 0, 0, 7, 0, 0, 4, 2, light, 78, work, 65));
-    say(dispatch_route(site, 100, board, 56, 7, 0, 0, 4, 2, 0, 0, work, 65));
-    say(dispatch_route(site, 100, board, 56, 7, 0, 0, 4, 2, light, 78, 0, 0));
-    say(dispatch_route(site, 100, board, 56, 7, 0, 0, 4, 2, light, 77, work, 65));
-    say(dispatch_route(site, 100, board, 56, 7, 0, 0, 4, 2, light, 78, work, 65) >> 32);
+    say(dispatch_route(site, SITE, 0, 0, 7, 0, 0, 4, 2, light, 78, work, 65));
+    say(dispatch_route(site, SITE, board, 56, 7, 0, 0, 4, 2, 0, 0, work, 65));
+    say(dispatch_route(site, SITE, board, 56, 7, 0, 0, 4, 2, light, 78, 0, 0));
+    say(dispatch_route(site, SITE, board, 56, 7, 0, 0, 4, 2, light, 77, work, 65));
+    say(dispatch_route(site, SITE, board, 56, 7, 0, 0, 4, 2, light, 78, work, 65) >> 32);
     say(dispatch_audit(0, 0, board, 56, light, 78));
-    say(dispatch_audit(site, 100, 0, 0, light, 78));
-    say(dispatch_audit(site, 100, board, 56, 0, 0));
+    say(dispatch_audit(site, SITE, 0, 0, light, 78));
+    say(dispatch_audit(site, SITE, board, 56, 0, 0));
     say(dispatch_post(0, 0, board, 56, light, 78));
-    say(dispatch_post(site, 100, 0, 0, light, 78));
-    say(dispatch_post(site, 100, board, 56, 0, 0));
+    say(dispatch_post(site, SITE, 0, 0, light, 78));
+    say(dispatch_post(site, SITE, board, 56, 0, 0));
     say(dispatch_close(0, 0, board, 56, 200, 0, 0, 0));
-    say(dispatch_close(site, 100, 0, 0, 200, 0, 0, 0));
+    say(dispatch_close(site, SITE, 0, 0, 200, 0, 0, 0));
     say(dispatch_withdraw(0, 0, board, 56, 200));
-    say(dispatch_withdraw(site, 100, 0, 0, 200));
+    say(dispatch_withdraw(site, SITE, 0, 0, 200));
 }}
 "#,
         site.join(", ")
@@ -63,7 +64,7 @@ fn largest() -> Site {
         }
         motions.push(Motion { from: from as u16, to: to as u16, d: 1, sweeps });
     }
-    Site { h: 1000, c: 255, states: (0..256).map(|s| State { cell: cell(s), speed: 0 }).collect(), motions }
+    Site { h: 1000, c: 255, margin: 20, states: (0..256).map(|s| State { cell: cell(s), speed: 0 }).collect(), motions }
 }
 
 /// The calls that are measured, and what the header says of each.

@@ -2,7 +2,7 @@
 
 #![cfg(not(feature = "standin"))]
 
-use dispatch::{Desk, Granted, Refusal, Trip};
+use dispatch::{Desk, Granted, Refusal, Sizes, Trip};
 use dispatch_tests::gen::{self, Call, Caller, Rng, Size};
 use dispatch_tests::literal::{encode, Light, Site, Step};
 use dispatch_tests::plain_board::PlainBoard;
@@ -13,6 +13,11 @@ use std::process::{Command, Output};
 
 fn number<T>(result: &Result<T, Refusal>) -> u8 {
     result.as_ref().err().map_or(0, |refusal| refusal.number())
+}
+
+/// What the head of a site's file says.
+fn sizes(site: &Site) -> Sizes {
+    Sizes { horizon: site.h as u16, cells: site.c as u16, states: site.states.len() as u16, margin: site.margin as _ }
 }
 
 /// One call of a list through the package, and through the plain board; gives a granted light.
@@ -53,7 +58,7 @@ fn compare(desk: &Desk, model: &PlainBoard, site: &Site) {
         let holders: Vec<Option<u8>> = (0..=site.h + 1).map(|tick| desk.holder(cell as u16, tick as u16)).collect();
         let wanted: Vec<Option<u8>> = (0..=site.h + 1).map(|tick| row.and_then(|row| row.get(tick).copied())).collect();
         assert_eq!(holders, wanted);
-        let free = |_: usize, tick: usize| row.is_some_and(|row| row[tick] == 0);
+        let free = |_: usize, tick: usize| row.is_some_and(|row| site.around(tick).all(|at| row[at] == 0));
         let intervals = desk.intervals(cell as u16);
         match row {
             Some(_) => assert_eq!(intervals.unwrap(), site.intervals(&free, cell).into_iter().map(|(first, last)| first..=last).collect::<Vec<_>>()),
@@ -83,7 +88,7 @@ fn desk_and_plain_board_agree() {
         }
         compare(&desk, &model, &site);
         assert_eq!(Desk::resume(&file, desk.board()).as_ref(), Ok(&desk));
-        assert_eq!((desk.site(), usize::from(desk.sizes().horizon)), (&file[..], site.h));
+        assert_eq!((desk.site(), desk.sizes()), (&file[..], sizes(&site)));
     }
     for number in [0, 8, 9, 10, 11, 12, 13, 16, 17, 18] {
         assert!(seen[number] >= 20, "number {number} occurs only {} times", seen[number]);
@@ -163,7 +168,7 @@ fn refused_sites_and_boards() {
     for len in [0, 55, 57] {
         assert_eq!(Desk::resume(&file, &vec![0; len]), Err(Refusal::BoardLength));
     }
-    let text = Desk::open(&file[..99]).unwrap_err().to_string();
+    let text = Desk::open(&file[..100]).unwrap_err().to_string();
     assert_eq!(text, "a field of the site file runs past the file's end (2)");
 }
 

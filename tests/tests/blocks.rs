@@ -1,11 +1,12 @@
 //! Routes around the borders of the blocks of 256 ticks in which the desk searches: the desk against the plain program and, on a part of them, the simple
-//! one (`src/pull.rs`), number, values and every lent byte. It counts what is special there, and fails if something of it is rare.
+//! one (`src/pull.rs`), number, values and every lent byte. Routes with a margin are also compared with those without one, on a board where all that is not
+//! free for a tug is held. It counts what is special at the borders, and fails if something of it is rare.
 //!
 //! ROUTES sets the number of routes (100,000) and SEED the seed (1): `ROUTES=1000000 SEED=7 cargo test --release --test blocks`.
 
 use dispatch_tests::desk::{self, Answer};
-use dispatch_tests::gen::{motion_between, Rng};
-use dispatch_tests::literal::{encode, Light, Site, State, Step, MAX_DWELL};
+use dispatch_tests::gen::{self, motion_between, Rng};
+use dispatch_tests::literal::{encode, Light, Site, State, Step, MAX_DWELL, MAX_MARGIN};
 #[cfg(not(feature = "standin"))]
 use dispatch_tests::worst;
 use dispatch_tests::{plain, pull};
@@ -14,6 +15,8 @@ use std::io::Write;
 use std::time::Instant;
 
 const BLOCK: usize = 256;
+/// The ticks of a word.
+const WORD: usize = 64;
 const TUG: u8 = 7;
 
 /// How often each thing that is counted must occur in a run that is long enough.
@@ -23,6 +26,8 @@ const OFTEN: usize = 300;
 const AROUND: [usize; 12] = [254, 255, 256, 257, 510, 511, 512, 513, 766, 767, 768, 769];
 /// The largest horizons. They must often be an arrival too.
 const LAST: [usize; 2] = [999, 1_000];
+/// Margins that must often decide a route.
+const MARGINS: [usize; 3] = [1, 2, MAX_MARGIN];
 
 /// What can happen at a border. A step or a dwell is across a border if it begins before the border and ends there or later.
 #[derive(Clone, Copy, PartialEq, Eq, PartialOrd, Ord, Debug)]
@@ -51,6 +56,10 @@ enum Seen {
     Later,
     /// A route that is refused with 18 only for its dwell.
     NoRoom,
+    /// A route that is answered in another way without its margin.
+    ByMargin(usize),
+    /// A route that is answered in another way if the margin does not reach across the borders between so many ticks.
+    AcrossBorders(usize),
 }
 
 /// All but those with a number.
@@ -98,7 +107,8 @@ fn modest_site(rng: &mut Rng) -> Site {
     for i in (1..motions.len()).rev() {
         motions.swap(i, rng.below(i + 1));
     }
-    Site { h, c, states, motions }
+    let margin = if rng.percent(40) { 0 } else { gen::any_margin(rng) };
+    Site { h, c, margin, states, motions }
 }
 
 /// A route call on a board.
@@ -110,18 +120,34 @@ struct Ask {
     dwell: usize,
 }
 
-/// A board with some runs that are held, often around a border. No byte is the tug's.
+/// A board with some runs that are held, often around a border or as far from one as the margin reaches. No byte is the tug's.
 fn booked(rng: &mut Rng, site: &Site) -> Vec<u8> {
     let ticks = site.h + 1;
     let mut board = vec![0; site.board_len()];
     board[..4].copy_from_slice(&(rng.draw() as u32).to_be_bytes());
     for _ in 0..rng.pick(&[0, 1, 4, 20, 60]) {
         let (cell, holder) = (rng.below(site.c), rng.pick(&[1, 8, 199, 200, 254, 255]));
-        let first = if rng.percent(50) { edge(rng, site.h) } else { rng.below(ticks) };
+        let away = if rng.percent(50) { rng.range(0, site.margin + 1) } else { 0 };
+        let first = match rng.below(4) {
+            0 => edge(rng, site.h).saturating_sub(away),
+            1 => (edge(rng, site.h) + away).min(site.h),
+            _ => rng.below(ticks),
+        };
         let last = (first + rng.pick(&[0, 0, 1, 3, 10])).min(site.h);
         board[4 + cell * ticks..][first..=last].fill(holder);
     }
     board
+}
+
+/// The board on which every pair within the margin of a held one is held too, if the margin counts from the held tick to that of the pair.
+fn with_margins_held(site: &Site, board: &[u8], counts: impl Fn(usize, usize) -> bool) -> Vec<u8> {
+    let mut wider = board.to_vec();
+    for (cell, ticks) in board[4..].chunks(site.h + 1).enumerate() {
+        for held in (0..=site.h).filter(|&tick| ticks[tick] != 0) {
+            site.around(held).filter(|&tick| counts(held, tick)).for_each(|tick| row(site, &mut wider, cell)[tick] = 200);
+        }
+    }
+    wider
 }
 
 fn row<'a>(site: &Site, board: &'a mut [u8], cell: usize) -> &'a mut [u8] {
@@ -226,6 +252,13 @@ fn call(route: Route, file: &[u8], board: &[u8], ask: &Ask, areas: &mut Areas) -
     route(file, board, TUG, start, tick, goal, dwell, &mut areas.0, &mut areas.1)
 }
 
+/// A site's file, but with margin 0.
+fn without_margin(file: &[u8]) -> Vec<u8> {
+    let mut changed = file.to_vec();
+    changed[8] = 0;
+    changed
+}
+
 fn border_between(first: usize, last: usize) -> bool {
     first / BLOCK < last / BLOCK
 }
@@ -266,25 +299,45 @@ impl Tally {
             let said = call(pull::route, file, board, ask, &mut simple);
             assert!(said == expected && simple == wanted, "{}\nthe simple program answers {said:?} or leaves other areas", place());
         }
+        if site.margin > 0 && self.routes % 2 == 0 {
+            let mut same = before.clone();
+            let said = call(desk::route, &without_margin(file), &with_margins_held(site, board, |_, _| true), ask, &mut same);
+            assert!(said == expected && same == wanted, "{}\nthe desk answers {said:?} without the margin where it is held, or leaves other areas", place());
+        }
         self.routes += 1;
         for seen in self.what(site, file, board, ask, answer, &left.0) {
             *self.seen.entry(seen).or_default() += 1;
         }
     }
 
+    /// What a route shows of the margin.
+    fn by_margin(&self, site: &Site, file: &[u8], board: &[u8], ask: &Ask, answer: Answer) -> Vec<Seen> {
+        let file = without_margin(file);
+        let if_it_counts = |counts: &dyn Fn(usize, usize) -> bool| {
+            let board = with_margins_held(site, board, counts);
+            call(plain::route, &file, &board, ask, &mut self.areas(site))
+        };
+        let across = |ticks: usize| if_it_counts(&|held, tick| held / ticks == tick / ticks) != answer;
+        let mut all = vec![(Seen::ByMargin(site.margin), if_it_counts(&|_, _| false) != answer)];
+        all.extend([WORD, BLOCK].map(|ticks| (Seen::AcrossBorders(ticks), across(ticks))));
+        all.into_iter().filter(|seen| seen.1).map(|seen| seen.0).collect()
+    }
+
     /// What a route shows, the granted ones by their lights.
     fn what(&self, site: &Site, file: &[u8], board: &[u8], ask: &Ask, answer: Answer, out: &[u8]) -> Vec<Seen> {
         let without = || call(plain::route, file, board, &Ask { dwell: 0, ..*ask }, &mut self.areas(site));
+        if answer.number != 0 && answer.number != 18 {
+            return vec![];
+        }
+        let mut all = if site.margin > 0 { self.by_margin(site, file, board, ask, answer) } else { vec![] };
         if answer.number == 18 {
             let no_room = ask.dwell > 0 && without().number == 0;
-            return [Some(Seen::Refused(site.h)), no_room.then_some(Seen::NoRoom)].into_iter().flatten().collect();
-        }
-        if answer.number != 0 {
-            return vec![];
+            all.extend([Some(Seen::Refused(site.h)), no_room.then_some(Seen::NoRoom)].into_iter().flatten());
+            return all;
         }
         let arrival = answer.arrival as usize;
         let light = Light::read(&out[..answer.value as usize]).unwrap();
-        let mut all = steps_seen(site, &light);
+        all.extend(steps_seen(site, &light));
         all.extend([Seen::Granted(site.h), Seen::Blocks(ask.tick / BLOCK, arrival / BLOCK)]);
         all.push(if ask.dwell == 0 { Seen::Arrival(arrival) } else { Seen::Unloading(arrival) });
         if border_between(arrival, arrival + ask.dwell) {
@@ -334,7 +387,8 @@ fn needed() -> Vec<Seen> {
     let arrivals = horizons().map(Seen::Arrival).chain(AROUND.map(Seen::Unloading));
     let answers = horizons().flat_map(|h| [Seen::Granted(h), Seen::Refused(h)]);
     let blocks = (0..4).flat_map(|first| (first..4).map(move |last| Seen::Blocks(first, last)));
-    arrivals.chain(answers).chain(blocks).chain(OTHERS).collect()
+    let margins = MARGINS.map(Seen::ByMargin).into_iter().chain([WORD, BLOCK].map(Seen::AcrossBorders));
+    arrivals.chain(answers).chain(blocks).chain(OTHERS).chain(margins).collect()
 }
 
 #[test]
@@ -373,7 +427,8 @@ fn worst_sites() {
     let seed = setting("SEED", 1);
     let (mut rng, mut tally) = (Rng::new(seed), Tally::new(seed));
     for kind in 0..3 * worst::KINDS {
-        let (site, board) = worst::case(&mut rng, kind % worst::KINDS);
+        let (mut site, board) = worst::case(&mut rng, kind % worst::KINDS);
+        site.margin = [0, 1, MAX_MARGIN][kind / worst::KINDS];
         let file = encode(&site);
         let last = site.states.len() - 1;
         let goals: Vec<usize> = (0..=last).filter(|&state| site.standing(state)).collect();

@@ -32,8 +32,8 @@ fn file(name: &str) -> Vec<u8> {
 
 /// The site file of 'Four in line'.
 #[rustfmt::skip]
-const SITE: [(&str, &str); 33] = [
-    ("01 0005", "head, 5 bytes"), ("000C", "H 12"), ("04", "4 cells"), ("0005", "5 states"),
+const SITE: [(&str, &str); 34] = [
+    ("01 0006", "head, 6 bytes"), ("000C", "H 12"), ("04", "4 cells"), ("0005", "5 states"), ("00", "margin 0"),
     ("02 0002", "state 0, 2 bytes"), ("00 00", "cell 0, standing"),
     ("02 0002", "state 1, 2 bytes"), ("01 01", "cell 1, speed 1"),
     ("02 0002", "state 2, 2 bytes"), ("01 00", "cell 1, standing"),
@@ -142,15 +142,15 @@ fn wide() -> Site {
     motions[258] = motion(255, 0, [1, 0]);
     let mut states = vec![State { cell: 0, speed: 0 }; 256];
     states[255].cell = 1;
-    Site { h: 1_000, c: 2, states, motions }
+    Site { h: 1_000, c: 2, margin: 0, states, motions }
 }
 
-/// The file of that site: H 1,000, 2 cells, 256 states; then the states and the motions.
+/// The file of that site: H 1,000, 2 cells, 256 states, margin 0; then the states and the motions.
 fn wide_bytes() -> Vec<u8> {
     let forth = "03 000B 0000 00FF 01, 00 00 01, 01 01 01 ";
     let back = "03 000B 00FF 0000 01, 01 00 01, 00 01 01 ";
     let states = "02 0002 00 00 ".repeat(255) + "02 0002 01 00 ";
-    four::hex(&format!("01 0005 03E8 02 0100 {states} {} {back} {}", forth.repeat(258), forth.repeat(600 - 259)))
+    four::hex(&format!("01 0006 03E8 02 0100 00 {states} {} {back} {}", forth.repeat(258), forth.repeat(600 - 259)))
 }
 
 /// Edition 16,909,060, tug 7, from state 255 at 261 to state 0, arrival 521, dwell 300; wait 259, motion 258.
@@ -159,14 +159,14 @@ const WIDE_LIGHT: &str = "10 000F 01020304 07 00FF 0105 0000 0209 012C, 11 0002 
 #[test]
 fn wide_site() {
     let (site, file) = (wide(), wide_bytes());
-    assert_eq!(file.len(), 8 + 256 * 5 + 600 * 14);
+    assert_eq!(file.len(), 9 + 256 * 5 + 600 * 14);
     assert!(encode(&site) == file, "the encoder's file");
     assert_eq!(Site::read(&file), Ok(site));
     assert_eq!(desk::open(&file, &mut vec![9; 4 + 2 * 1_001]), Answer::plain(0));
     // 256 for 0, as motion 0's from and as motion 258's to. With its bytes in the other order it would be 1, a state in the same cell.
     for (motion, at) in [(0, 0), (258, 2)] {
         let mut changed = file.clone();
-        changed[8 + 256 * 5 + motion * 14 + 3 + at..][..2].copy_from_slice(&four::hex("0100"));
+        changed[9 + 256 * 5 + motion * 14 + 3 + at..][..2].copy_from_slice(&four::hex("0100"));
         assert_eq!(Site::read(&changed), Err(6));
         assert_eq!(desk::open(&changed, &mut vec![9; 4 + 2 * 1_001]), Answer::plain(6));
     }
@@ -181,8 +181,8 @@ fn distinct_bytes() {
     assert_eq!(light.encode(), bytes);
     assert_eq!(Light::read(&bytes), Some(light));
     let motions = vec![Motion { from: 0x0102, to: 0x0304, d: 5, sweeps: vec![Sweep { cell: 6, a: 7, b: 8 }] }];
-    let site = Site { h: 0x090a, c: 11, states: vec![State { cell: 12, speed: 13 }], motions };
-    assert_eq!(encode(&site), four::hex("01 0005 090A 0B 0001, 02 0002 0C 0D, 03 0008 0102 0304 05, 06 07 08"));
+    let site = Site { h: 0x090a, c: 11, margin: 14, states: vec![State { cell: 12, speed: 13 }], motions };
+    assert_eq!(encode(&site), four::hex("01 0006 090A 0B 0001 0E, 02 0002 0C 0D, 03 0008 0102 0304 05, 06 07 08"));
     let mut field = Vec::new();
     put(&mut field, 9, &[7; 0x0102]);
     assert_eq!(field, four::hex(&format!("09 0102 {}", "07".repeat(258))));

@@ -1,7 +1,7 @@
 //! The day program as an executable against an independent reading of docs/FORMATS.md ('Script', 'What the day program prints').
 
 use dispatch_tests::gen::{self, Rng, Size};
-use dispatch_tests::literal::{encode, put};
+use dispatch_tests::literal::{encode, put, with_head, Site};
 use dispatch_tests::{c, day, four};
 use std::fs;
 use std::io::Write;
@@ -116,7 +116,7 @@ fn quiet_shift() {
     let script = worked_script();
     assert_eq!(output(&folder, &script[..9]), "0 1 0\n", "a close field");
     // A refused open prints its own line, also with an empty script.
-    fs::write(&site_bin, &site[..99]).unwrap();
+    fs::write(&site_bin, &site[..100]).unwrap();
     assert_eq!(output(&folder, &[]), "2 0 0\n", "a cut site.bin");
     fs::remove_file(&site_bin).unwrap();
     assert_eq!(output(&folder, &[]), "3 0 0\n", "no site.bin");
@@ -168,6 +168,37 @@ fn time_at_the_dock() {
     hall.h = 300;
     fs::write(folder.join("site.bin"), encode(&hall)).unwrap();
     assert_eq!(run(&[&route(1, 39), &route(1, 40), &route(0, 1)]), "0 0 5\n18 0 0\n0 0 5\n", "dwells 295, 296 and 1 of H 300");
+}
+
+/// Request 5, by its text: what is printed is written out here.
+#[test]
+fn margin_between_tugs() {
+    let folder = folder("margin");
+    let site_bin = folder.join("site.bin");
+    let route = |tug: u8, tick: u8| (34, vec![tug, 0, 0, 0, tick, 0, 4, 0, 0]);
+    let close = |holder: u8, cell: u8, tick: u8| (32, vec![holder, cell, 0, tick, 0, tick]);
+    let post = || (35, vec![]);
+    let run = |margin: usize, fields: &[(u8, Vec<u8>)]| {
+        fs::write(&site_bin, encode(&four::with_margin(margin))).unwrap();
+        let mut script = Vec::new();
+        fields.iter().for_each(|(tag, value)| put(&mut script, *tag, value));
+        output(&folder, &script)
+    };
+    // Tug 7 is posted as in case A. Tug 8 may not start beside it, and a tick later it waits for one tick.
+    let tugs = |tick: u8| [route(7, 0), post(), route(8, tick), post()];
+    assert_eq!(run(0, &tugs(1)), "0 0 5\n0 1 0\n18 1 0\n12 1 0\n");
+    assert_eq!(run(0, &tugs(2)), "0 0 5\n0 1 0\n0 1 8\n0 2 0\n");
+    assert_eq!(run(1, &tugs(2)), "0 0 5\n0 1 0\n18 1 0\n12 1 0\n");
+    assert_eq!(run(1, &tugs(3)), "0 0 5\n0 1 0\n0 1 9\n0 2 0\n");
+    assert_eq!(run(4, &tugs(6)), "0 0 5\n0 1 0\n0 1 12\n0 2 0\n");
+    assert_eq!(run(20, &tugs(6)), "0 0 5\n0 1 0\n18 1 0\n12 1 0\n");
+    // Both have used cell 1, at 1 to 3 and at 5 to 7: it can't be closed next to them. Closures may touch.
+    let closes = [close(200, 1, 4), close(200, 1, 8), close(200, 1, 9), close(201, 1, 10)];
+    assert_eq!(run(1, &[&tugs(3)[..], &closes[..]].concat()), "0 0 5\n0 1 0\n0 1 9\n0 2 0\n17 2 0\n17 2 0\n0 3 0\n0 4 0\n");
+    assert_eq!(run(21, &tugs(2)), "3 0 0\n");
+    // The worked hall's file as it was before.
+    fs::write(&site_bin, with_head(&four::bytes(), 5).unwrap()).unwrap();
+    assert_eq!(output(&folder, &worked_script()), "3 0 0\n");
 }
 
 /// A script that comes slowly is waited for: it is neither empty nor cut.
@@ -229,7 +260,7 @@ fn site_files() {
     let (site, script) = (four::bytes(), worked_script());
     agree(&folder, None, &script, "no site.bin");
     agree(&folder, Some(&[]), &script, "an empty site.bin");
-    agree(&folder, Some(&site[..99]), &script, "a cut site.bin");
+    agree(&folder, Some(&site[..100]), &script, "a cut site.bin");
     for len in [65_536, 65_537, 65_538, 131_072, 131_072 + 100, 200_000] {
         let mut long = site.clone();
         long.resize(len, 0);
@@ -277,7 +308,7 @@ fn random_scripts() {
     writeln!(std::io::stderr(), "day: seed {seed}, {runs} scripts").unwrap();
     let folder = folder("random");
     let mut rng = Rng::new(seed);
-    let mut dwells = 0;
+    let (mut dwells, mut margins) = (0, 0);
     for run in 0..runs {
         let size = rng.pick(&[Size::Tiny, Size::Row, Size::Row, Size::Small, Size::Small, Size::Middle]);
         let site = if rng.percent(20) { four::site() } else { gen::site(&mut rng, size) };
@@ -288,9 +319,14 @@ fn random_scripts() {
             file = gen::damaged(&mut rng, &site, &[fault]);
         }
         agree(&folder, Some(&file), &script, &format!("seed {seed}, script {run}"));
-        dwells += usize::from(day::transcript(Some(&file), &script) != day::transcript(Some(&file), &without_dwells(&script)));
+        let lines = day::transcript(Some(&file), &script);
+        dwells += usize::from(lines != day::transcript(Some(&file), &without_dwells(&script)));
+        let damaged = file != encode(&site);
+        let without_margin = encode(&Site { margin: 0, ..site });
+        margins += usize::from(!damaged && lines != day::transcript(Some(&without_margin), &script));
     }
     // A short run may have few of them.
+    assert!(runs < 300 || margins * 20 >= runs, "only {margins} of {runs} scripts print something else without the margin");
     assert!(runs < 300 || dwells * 20 >= runs, "only {dwells} of {runs} scripts print something else without their dwells");
 }
 
@@ -316,7 +352,7 @@ fn script_longer_than_any_area() {
 #[cfg(not(feature = "standin"))]
 #[test]
 fn stack_of_1_mib() {
-    use dispatch_tests::literal::{Motion, Site, State, Sweep};
+    use dispatch_tests::literal::{Motion, State, Sweep};
     let folder = folder("stack");
     let motion = |from, to, cells: [u8; 2]| {
         let sweeps = vec![Sweep { cell: cells[0], a: 0, b: 1 }, Sweep { cell: cells[1], a: 1, b: 1 }];
@@ -324,7 +360,7 @@ fn stack_of_1_mib() {
     };
     let states = [(0, 1), (1, 1), (2, 0)].map(|(cell, speed)| State { cell, speed }).to_vec();
     let motions = vec![motion(0, 1, [0, 1]), motion(1, 0, [1, 0]), motion(0, 2, [0, 2])];
-    let site = Site { h: 1_000, c: 3, states, motions };
+    let site = Site { h: 1_000, c: 3, margin: 0, states, motions };
     fs::write(folder.join("site.bin"), encode(&site)).unwrap();
     let mut script = Vec::new();
     put(&mut script, 32, &[200, 2, 0, 0, 3, 230]);

@@ -194,10 +194,10 @@ fn each_way_to_run_it() {
     let run = |words: &[&str], input| finish(Command::new(&place.day).args(words).current_dir(&place.folder), input);
     let heads = |site: &str, script: &str| [format!("Site:   {site}"), format!("Script: {script}"), HEADING.to_string()];
     for (words, input, out, site, script, refusals) in [
-        (&[][..], None, "0 1 0\n0 1 10\n0 2 0\n", "crates/day/data/site.bin, 100 bytes", "crates/day/stdin, 24 bytes", 0),
-        (&["shift"], None, "0 1 0\n18 1 0\n8 1 0\n", "shift/site.bin, 100 bytes", "shift/script, 24 bytes", 2),
-        (&["-"], Some(&case_b(2)[..9]), "0 1 0\n", "crates/day/data/site.bin, 100 bytes", "standard input", 0),
-        (&["shift/", "-"], Some(&case_b(2)[..]), "0 1 0\n0 1 10\n0 2 0\n", "shift/site.bin, 100 bytes", "standard input", 0),
+        (&[][..], None, "0 1 0\n0 1 10\n0 2 0\n", "crates/day/data/site.bin, 101 bytes", "crates/day/stdin, 24 bytes", 0),
+        (&["shift"], None, "0 1 0\n18 1 0\n8 1 0\n", "shift/site.bin, 101 bytes", "shift/script, 24 bytes", 2),
+        (&["-"], Some(&case_b(2)[..9]), "0 1 0\n", "crates/day/data/site.bin, 101 bytes", "standard input", 0),
+        (&["shift/", "-"], Some(&case_b(2)[..]), "0 1 0\n0 1 10\n0 2 0\n", "shift/site.bin, 101 bytes", "standard input", 0),
     ] {
         let done = run(words, input);
         assert!(done.status == Some(0) && done.out == out, "{words:?}: {done:?}");

@@ -5,6 +5,7 @@
 use dispatch::{steps, Desk, Granted, Refusal, Sizes, Step, Trip};
 use dispatch_tests::docs::{block, bytes, header_numbers, table, text};
 use dispatch_tests::gen::{self, CALLS};
+use dispatch_tests::literal::encode;
 use dispatch_tests::{c, four};
 use std::fs;
 use std::path::{Path, PathBuf};
@@ -23,7 +24,7 @@ fn whole_site_file() {
     let file = hex("# head: H 12, C 4, S 5");
     assert_eq!(file, fs::read(c::root().join("crates/day/data/site.bin")).unwrap());
     assert_eq!(file, four::bytes());
-    assert_eq!(file.len(), 100);
+    assert_eq!(file.len(), 101);
 }
 
 #[test]
@@ -79,6 +80,43 @@ fn routes_of_four_in_line() {
         // E gives its arrival alone.
         let right = if case == "E" { said.ends_with(&format!(", {answer}")) } else { said == answer };
         assert!(right, "case {case}: {said}, and the table says {answer}");
+    }
+}
+
+/// What a call of the margins' table comes to, in its words; tug 8 is the one that is routed.
+fn called(desk: &mut Desk, call: &str) -> String {
+    let numbers = numbers_in(call);
+    let last = *numbers.last().unwrap();
+    match call.split(' ').next().unwrap() {
+        "interval" => {
+            let all: Vec<String> = desk.intervals(last).unwrap().into_iter().map(|i| format!("{} to {}", i.start(), i.end())).collect();
+            if all.is_empty() { "none".to_string() } else { all.join(", ") }
+        }
+        "close" => desk.close(254, numbers[0], last..=last).map_or_else(|refusal| refusal.number().to_string(), |()| "accepted".to_string()),
+        _ => in_words(desk.route(Trip { tug: 8, start: 0, tick: last, goal: 4, dwell: 0 })),
+    }
+}
+
+/// The cases with a margin. A cell of the table that has several calls names them all by its first words: 'close cell 1 at 4; at 5'.
+#[test]
+fn margins_of_four_in_line() {
+    let rows = table(&formats(), "| margin | board | call | answer |");
+    assert!(rows.len() >= 9);
+    for row in rows {
+        let first = row[2].split(" at ").next().unwrap().to_string();
+        for (call, answer) in row[2].split("; ").zip(row[3].split("; ")) {
+            let mut desk = Desk::open(&encode(&four::with_margin(row[0].parse().unwrap()))).unwrap();
+            if let [cell, at, .., last] | [cell, at @ last] = numbers_in(&row[1])[..] {
+                desk.close(200, cell, at..=last).unwrap();
+            } else {
+                assert_eq!(row[1], "A");
+                let light = desk.route(Trip { tug: 7, start: 0, tick: 0, goal: 4, dwell: 0 }).unwrap().light;
+                desk.post(&light).unwrap();
+            }
+            let call = if call.starts_with("at ") { format!("{first} {call}") } else { call.to_string() };
+            assert_eq!(called(&mut desk, &call), answer.split(':').next().unwrap(), "margin {}, board {}, {call}", row[0], row[1]);
+        }
+        assert_eq!(row[2].split("; ").count(), row[3].split("; ").count());
     }
 }
 
@@ -145,7 +183,7 @@ fn numbers_of_each_call() {
 /// The largest areas, as the table has them.
 #[test]
 fn largest_areas() {
-    let most = Sizes { horizon: 1_000, cells: 255, states: 256 };
+    let most = Sizes { horizon: 1_000, cells: 255, states: 256, margin: 0 };
     let rows = table(&formats(), "| area | elements | how many |");
     let said = |area: &str| rows.iter().find(|row| row[0] == area).unwrap_or_else(|| panic!("no row {area}"))[2].replace(',', "");
     for (area, needed) in [

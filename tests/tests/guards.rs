@@ -88,7 +88,9 @@ fn seeded_calls() {
 
 #[test]
 fn four_in_line() {
-    shift(&mut Rng::new(1), &four::site(), compare);
+    for margin in [0, 2] {
+        shift(&mut Rng::new(1), &four::with_margin(margin), compare);
+    }
 }
 
 #[test]

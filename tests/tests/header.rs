@@ -3,6 +3,7 @@
 #![cfg(not(feature = "standin"))]
 
 use dispatch::{Refusal, Sizes, Word};
+use dispatch_tests::literal::encode;
 use dispatch_tests::{c, four};
 
 const HEADS: [(u16, u16, u16); 4] = [(12, 4, 5), (1, 1, 1), (1_000, 255, 256), (258, 3, 259)];
@@ -10,16 +11,21 @@ const HEADS: [(u16, u16, u16); 4] = [(12, 4, 5), (1, 1, 1), (1_000, 255, 256), (
 /// Refused, an interval's, a travel time's, a route's, and one that has a bit in every part.
 const WORDS: [u64; 6] = [18, 3 << 8, 50 << 8, 10 << 32 | 38 << 8, 1_000 << 32 | 5_018 << 8, 0x0123_0000_0089_ab00];
 
+/// The worked hall with a margin, so that its byte shows.
+fn site() -> Vec<u8> {
+    encode(&four::with_margin(1))
+}
+
 /// Prints every text, every size and every part of a word. It is C and C++ alike.
 fn source() -> String {
-    let site: Vec<String> = four::bytes().iter().map(u8::to_string).collect();
+    let site: Vec<String> = site().iter().map(u8::to_string).collect();
     let heads: String = HEADS.map(|(h, c, s)| format!("    sizes({h}, {c}, {s});\n")).concat();
     let words: String = WORDS.map(|word| format!("    parts(UINT64_C({word}));\n")).concat();
     format!(
         r#"#define __STDC_CONSTANT_MACROS
 #include "include/dispatch.h"
 #include <stdio.h>
-static const uint8_t site[100] = {{{}}};
+static const uint8_t site[101] = {{{}}};
 /* of constants, so that areas can be arrays */
 static uint8_t board[DISPATCH_BOARD_BYTES(12, 4)], light[DISPATCH_LIGHT_BYTES(12)];
 static uint32_t work[DISPATCH_WORK_WORDS(12, 5)];
@@ -37,9 +43,9 @@ int main(void) {{
     int number;
     for (number = 0; number < DISPATCH_NUMBER_COUNT; number++) printf("%d %s\n", number, dispatch_text(number));
     printf("%s, %s, %s\n", dispatch_text(DISPATCH_STALE_LIGHT), dispatch_text(DISPATCH_NUMBER_COUNT), dispatch_text(-1));
-{heads}{words}    printf("%d %d %d %d %d\n", DISPATCH_MOST_H, DISPATCH_MOST_C, DISPATCH_MOST_S, DISPATCH_MOST_SITE_BYTES, DISPATCH_MOST_LIGHT_BYTES);
+{heads}{words}    printf("%d %d %d %d %d %d\n", DISPATCH_MOST_H, DISPATCH_MOST_C, DISPATCH_MOST_S, DISPATCH_MOST_M, DISPATCH_MOST_SITE_BYTES, DISPATCH_MOST_LIGHT_BYTES);
     printf("%d %d %d\n", DISPATCH_STACK_ROUTE, DISPATCH_STACK_LIGHT, DISPATCH_STACK);
-    printf("%zu %zu %zu\n", DISPATCH_SITE_H(site), DISPATCH_SITE_C(site), DISPATCH_SITE_S(site));
+    printf("%zu %zu %zu %zu\n", DISPATCH_SITE_H(site), DISPATCH_SITE_C(site), DISPATCH_SITE_S(site), DISPATCH_SITE_M(site));
     printf("%zu %zu %zu %zu\n", sizeof board, sizeof light, sizeof work, sizeof numbers);
     printf("%lu\n", (unsigned long)DISPATCH_EDITION(edition));
     word = dispatch_open(site, sizeof site, board, sizeof board);
@@ -63,17 +69,17 @@ fn wanted() -> String {
     text.extend(Refusal::ALL.iter().map(|refusal| format!("{} {}\n", refusal.number(), refusal.text())));
     text += &format!("{}, not a number of the desk, not a number of the desk\n", Refusal::StaleLight.text());
     for (horizon, cells, states) in HEADS {
-        let sizes = Sizes { horizon, cells, states };
+        let sizes = Sizes { horizon, cells, states, margin: 0 };
         text += &format!("{} {} {} {}\n", sizes.board_bytes(), sizes.light_bytes(), sizes.work_words(), sizes.interval_numbers());
     }
     for word in WORDS.map(Word) {
         // A count has 32 bits in C and is a usize in Rust: as wide as it can be there.
         text += &format!("{} {} {} {} {}\n", word.number(), word.count() as u32, (word.0 >> 8) as u32, word.length(), word.0 >> 32);
     }
-    text += "1000 255 256 65536 5018\n";
+    text += "1000 255 256 20 65536 5018\n";
     text += &format!("{} {} {}\n", dispatch::STACK_ROUTE, dispatch::STACK_LIGHT, dispatch::STACK);
-    let sizes = Sizes::of(&four::bytes()).unwrap();
-    text += &format!("{} {} {}\n", sizes.horizon, sizes.cells, sizes.states);
+    let sizes = Sizes::of(&site()).unwrap();
+    text += &format!("{} {} {} {}\n", sizes.horizon, sizes.cells, sizes.states, sizes.margin);
     text += &format!("56 78 260 28\n{}\n0\n0 33 5\n0\n0 2\n", 0xf102_0304u32);
     text
 }

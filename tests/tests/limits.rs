@@ -4,7 +4,7 @@
 use dispatch_tests::desk::{self, Answer};
 use dispatch_tests::gen::{self, possible, Call, Caller, Rng, CALLS};
 use dispatch_tests::lent::Values;
-use dispatch_tests::literal::{encode, Light, Motion, Site, State, Step, Sweep};
+use dispatch_tests::literal::{encode, with_head, Light, Motion, Site, State, Step, Sweep, MAX_MARGIN};
 use dispatch_tests::plain_board::PlainBoard;
 use dispatch_tests::{literal_desk, run};
 use std::collections::BTreeSet;
@@ -26,7 +26,7 @@ fn ring(h: usize, c: usize, s: usize, motions: usize) -> Site {
         }
         Motion { from: from as u16, to: to as u16, d: 1, sweeps }
     };
-    Site { h, c, states, motions: (0..motions).map(motion).collect() }
+    Site { h, c, margin: 0, states, motions: (0..motions).map(motion).collect() }
 }
 
 /// Gives a motion another span, and so many sweeps: those that it needs, then of the last cell, up to the motion's end.
@@ -50,6 +50,11 @@ fn filled(mut site: Site, len: usize) -> Site {
     }
     assert_eq!(encode(&site).len(), len);
     site
+}
+
+/// A small hall with a margin.
+fn apart(margin: usize, h: usize) -> Site {
+    Site { margin, ..ring(h, 4, 5, 9) }
 }
 
 /// A small hall, changed.
@@ -100,8 +105,16 @@ fn sizes() -> Vec<(&'static str, Site, u8)> {
         ("no motions", ring(12, 4, 5, 0), 0),
         ("2,000 motions", needed, 0),
         ("2,001 motions", ring(12, 4, 5, 2_001), 4),
-        ("65,536 bytes", filled(ring(12, 4, 5, 2_000), 65_536), 0),
-        ("65,537 bytes", filled(ring(12, 4, 4, 2_000), 65_537), 1),
+        ("margin 1, H 12", apart(1, 12), 0),
+        ("margin 20, H 1,000", apart(20, 1_000), 0),
+        ("margin 20, H 19", apart(20, 19), 0),
+        ("margin 20, H 20", apart(20, 20), 0),
+        ("margin 20, H 21", apart(20, 21), 0),
+        ("margin 20, H 41", apart(20, 41), 0),
+        ("margin 21", apart(21, 12), 3),
+        ("margin 255", apart(255, 12), 3),
+        ("65,536 bytes", filled(ring(12, 4, 6, 2_000), 65_536), 0),
+        ("65,537 bytes", filled(ring(12, 4, 5, 2_000), 65_537), 1),
     ]
 }
 
@@ -333,7 +346,8 @@ impl Hall<'_> {
         let posted = self.call(&route(site, 1, last, 0, last, 0)).1;
         assert_eq!(self.number(Call::Post { light: posted }), 0, "{}", self.name);
         assert_eq!(self.board[..4], [255; 4], "{}", self.name);
-        let light = self.call(&route(site, 2, last, 1, last, 0)).1;
+        // Granted or not: 15 comes before what the plan is.
+        let light = Light { edition: u32::MAX, tug: 2, start: last as u16, tick: 1, goal: last as u16, arrival: 1, dwell: 0, steps: vec![] }.encode();
         let calls = [Call::Audit { light: light.clone() }, Call::Post { light }, close(200, 0, 1, 1), Call::Withdraw { holder: 1 }];
         for call in calls {
             assert_eq!(self.number(call), 15, "{}", self.name);
@@ -416,6 +430,31 @@ fn each_limit() {
     all_met(&met);
 }
 
+/// Every margin that a byte can name.
+#[test]
+fn margins() {
+    for margin in 0..=255 {
+        let site = apart(margin, 12);
+        let mut hall = Hall::new("a margin", &site);
+        let number = if margin <= MAX_MARGIN { 0 } else { 3 };
+        assert_eq!(hall.number(Call::Open), number, "margin {margin}");
+    }
+}
+
+/// A head of any other length, also with the low byte of the right one: 3 from every call. The one of 5 bytes is as it was before there was a margin.
+#[test]
+fn head_lengths() {
+    let site = ring(12, 4, 5, 9);
+    for len in (0..=5).chain([7, 8, 256 + 6]) {
+        let name = format!("a head of {len} bytes");
+        let mut hall = Hall::new(&name, &site);
+        hall.file = with_head(&hall.file, len).unwrap();
+        for call in every_call(&site) {
+            assert_eq!(hall.number(call), 3, "{name}");
+        }
+    }
+}
+
 #[test]
 fn any_boards_at_each_limit() {
     let mut met = Met::new();
@@ -427,10 +466,10 @@ fn any_boards_at_each_limit() {
     all_met(&met);
 }
 
-/// As many cells, states and motions as a site may have, and 1,000 ticks; some motions with the longest span and the most sweeps, the last one too.
+/// As many cells, states and motions as a site may have, 1,000 ticks and the largest margin; some motions with the longest span and the most sweeps, the last one too.
 #[cfg(not(feature = "standin"))]
 fn largest(s: usize, len: usize) -> Site {
-    let mut site = ring(1_000, 255, s, 2_000);
+    let mut site = Site { margin: MAX_MARGIN, ..ring(1_000, 255, s, 2_000) };
     need_last(&mut site);
     for k in (s..2_000).step_by(97).chain([1_999]) {
         reshape(&mut site, k, 255, 16);
@@ -438,12 +477,12 @@ fn largest(s: usize, len: usize) -> Site {
     filled(site, len)
 }
 
-/// A site of 256 states and 2,000 motions can't have 65,535 or 65,536 bytes, as its states and motions leave a multiple of 3 for its sweeps; one of 254
-/// states can have 65,536. The simple desk takes long here, and reads a site as the literal reading does.
+/// A site of 256 states and 2,000 motions can't have 65,536 bytes, as its head, states and motions leave a multiple of 3 for its sweeps; one of 255
+/// states can. The simple desk takes long here, and reads a site as the literal reading does.
 #[test]
 #[cfg(not(feature = "standin"))]
 fn all_limits_at_once() {
-    for (s, len) in [(256, 65_534), (254, 65_536)] {
+    for (s, len) in [(256, 65_535), (255, 65_536)] {
         let site = largest(s, len);
         let name = format!("{s} states and {len} bytes");
         let mut hall = Hall::new(&name, &site);

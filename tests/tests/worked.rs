@@ -1,5 +1,5 @@
-//! The worked cases A to O of 'Four in line' of docs/FORMATS.md, which have dwell 0, and cases of the requests, with the desk's calls; routes also
-//! with the plain program's.
+//! The worked cases A to O of 'Four in line' of docs/FORMATS.md, which have dwell 0 and margin 0, and cases of the requests, with the desk's calls;
+//! routes also with the plain program's.
 
 use dispatch_tests::desk::{self, Answer};
 use dispatch_tests::literal::{encode, with_head, Light, Motion, Site, State, Step, Sweep};
@@ -21,14 +21,18 @@ fn board(closures: &[(u16, u16, u16)]) -> Vec<u8> {
     board
 }
 
-/// The route's answer and light, the desk's and the plain program's compared, with the areas around it.
 fn route_on(site: &Site, board: &[u8], start: u16, tick: u16, goal: u16, dwell: u16) -> (Answer, Vec<u8>) {
+    route_of(7, site, board, start, tick, goal, dwell)
+}
+
+/// The route's answer and light, the desk's and the plain program's compared, with the areas around it.
+fn route_of(tug: u8, site: &Site, board: &[u8], start: u16, tick: u16, goal: u16, dwell: u16) -> (Answer, Vec<u8>) {
     let file = encode(site);
     let words = site.states.len() * (site.h + 1);
     let (out, work) = (vec![0xa5; 18 + 5 * site.h + 3], vec![7; words + 2]);
     let run = |call: fn(&[u8], &[u8], u8, u16, u16, u16, u16, &mut [u8], &mut [u32]) -> Answer| {
         let (mut out, mut work) = (out.clone(), work.clone());
-        let answer = call(&file, board, 7, start, tick, goal, dwell, &mut out, &mut work);
+        let answer = call(&file, board, tug, start, tick, goal, dwell, &mut out, &mut work);
         (answer, out, work)
     };
     let got = run(desk::route);
@@ -70,8 +74,8 @@ fn refused(board: &[u8], start: u16, tick: u16, number: u8) {
 }
 
 #[test]
-fn file_has_100_bytes() {
-    assert_eq!(four::bytes().len(), 100);
+fn file_has_101_bytes() {
+    assert_eq!(four::bytes().len(), 101);
 }
 
 #[test]
@@ -236,7 +240,7 @@ fn dwell_above_the_limit() {
 /// One cell and H 1,000: the longest dwell there is, and its high byte.
 #[test]
 fn longest_dwell() {
-    let site = Site { h: 1_000, c: 1, states: vec![State { cell: 0, speed: 0 }], motions: vec![] };
+    let site = Site { h: 1_000, c: 1, margin: 0, states: vec![State { cell: 0, speed: 0 }], motions: vec![] };
     let file = encode(&site);
     let mut board = vec![0; 4 + 1_001];
     let (answer, light) = route_on(&site, &board, 0, 0, 0, 1_000);
@@ -319,7 +323,7 @@ fn motion(from: u16, to: u16, sweeps: [(u8, u8, u8); 2]) -> Motion {
 /// Two cells with a standing state each, and a motion of span 1 either way: M0 from cell 0 to cell 1, M1 back.
 fn to_and_fro(h: usize) -> Site {
     let states = vec![State { cell: 0, speed: 0 }, State { cell: 1, speed: 0 }];
-    Site { h, c: 2, states, motions: vec![motion(0, 1, [(0, 0, 1), (1, 1, 1)]), motion(1, 0, [(1, 0, 1), (0, 1, 1)])] }
+    Site { h, c: 2, margin: 0, states, motions: vec![motion(0, 1, [(0, 0, 1), (1, 1, 1)]), motion(1, 0, [(1, 0, 1), (0, 1, 1)])] }
 }
 
 /// The tug stands at its goal, cell 1, which is closed at 2: to unload for two ticks it leaves and comes back, 3 to 5.
@@ -373,5 +377,138 @@ fn longest_light() {
         let bytes = light.encode();
         assert_eq!(bytes.len(), 18 + 5 * steps as usize);
         assert_eq!(desk::audit(&file, &board, &bytes), Answer::plain(number), "{steps} steps");
+    }
+}
+
+#[test]
+fn margin_in_the_head() {
+    for (margin, number) in [(0, 0), (20, 0), (21, 3), (255, 3)] {
+        let file = encode(&four::with_margin(margin));
+        assert_eq!((file.len(), desk::open(&file, &mut [9; 56]).number), (101, number), "margin {margin}");
+    }
+    let old_head = four::hex(&format!("01 0005 000C 04 0005 {}", "02 0002 00 00 ".repeat(5)));
+    assert_eq!(desk::open(&old_head, &mut [9; 56]), Answer::plain(3));
+    assert_eq!(desk::open(&with_head(&old_head, 6).unwrap(), &mut [9; 56]), Answer::plain(0));
+    assert_eq!(desk::open(&with_head(&four::bytes(), 7).unwrap(), &mut [9; 56]), Answer::plain(3));
+}
+
+/// The worked hall with a margin, and a board on which A's light is posted: cell 0 is held at 0 and 1, cell 1 at 1 to 3, cell 2 at 3 and 4, cell 3
+/// at 4 and 5.
+fn behind_a(margin: usize) -> (Site, Vec<u8>) {
+    let site = four::with_margin(margin);
+    let mut board = vec![0; 56];
+    let (answer, light) = route_on(&site, &board, 0, 0, 4, 0);
+    assert_eq!(answer, Answer { number: 0, value: 33, arrival: 5 });
+    assert_eq!(desk::post(&encode(&site), &mut board, &light), Answer::plain(0));
+    (site, board)
+}
+
+/// The margin is asked for, and not held.
+#[test]
+fn margin_is_not_written() {
+    let (_, board) = behind_a(2);
+    assert_eq!(board[..4], [0, 0, 0, 1]);
+    let rows = [[7, 7, 0, 0, 0, 0], [0, 7, 7, 7, 0, 0], [0, 0, 0, 7, 7, 0], [0, 0, 0, 0, 7, 7]];
+    for (cell, row) in rows.iter().enumerate() {
+        assert_eq!(board[4 + 13 * cell..][..6], *row, "cell {cell}");
+        assert_eq!(board[10 + 13 * cell..][..7], [0; 7], "cell {cell}");
+    }
+}
+
+/// Tug 8 follows A from a tick on. It waits for one tick, as cell 1 is left two ticks after cell 0, and M0 uses it one tick after its start.
+#[test]
+fn margin_between_two_tugs() {
+    for (margin, tick, arrival) in [(0, 2, 8), (1, 3, 9), (2, 4, 10), (4, 6, 12)] {
+        let (site, board) = behind_a(margin);
+        let (answer, light) = route_of(8, &site, &board, 0, tick, 4, 0);
+        assert_eq!(answer, Answer { number: 0, value: 38, arrival: arrival as u32 }, "margin {margin} from {tick}");
+        let wanted = Light { edition: 1, tug: 8, start: 0, tick, goal: 4, arrival, dwell: 0, steps: vec![W(1), M(0), M(1), M(2)] };
+        assert_eq!(Light::read(&light), Some(wanted), "margin {margin} from {tick}");
+        assert_eq!(desk::audit(&encode(&site), &board, &light), Answer::plain(0), "margin {margin} from {tick}");
+        // One tick earlier cell 0 is not free, as A was there at 1.
+        assert_eq!(route_of(8, &site, &board, 0, tick - 1, 4, 0), (Answer::plain(18), vec![]), "margin {margin} from {}", tick - 1);
+        // Without the wait it comes too near in cell 1.
+        let hasty = Light { edition: 1, tug: 8, start: 0, tick, goal: 4, arrival: arrival - 1, dwell: 0, steps: vec![M(0), M(1), M(2)] };
+        assert_eq!(desk::audit(&encode(&site), &board, &hasty.encode()), Answer::plain(17), "margin {margin} from {tick}");
+    }
+    let (site, board) = behind_a(5);
+    assert_eq!(route_of(8, &site, &board, 0, 7, 4, 0), (Answer::plain(18), vec![]));
+}
+
+/// The safe intervals of a cell, one number after the other.
+fn intervals(site: &Site, board: &[u8], cell: u16) -> Vec<u16> {
+    let mut out = [77; 14];
+    let answer = desk::interval(&encode(site), board, cell, &mut out);
+    assert_eq!((answer.number, answer.arrival), (0, 0));
+    let (written, rest) = out.split_at(2 * answer.value as usize);
+    assert!(rest.iter().all(|&n| n == 77));
+    written.to_vec()
+}
+
+#[test]
+fn margin_of_intervals() {
+    let posted: [(usize, &[u16]); 5] = [(0, &[0, 0, 4, 12]), (1, &[5, 12]), (2, &[6, 12]), (8, &[12, 12]), (9, &[])];
+    for (margin, wanted) in posted {
+        let (site, board) = behind_a(margin);
+        assert_eq!(intervals(&site, &board, 1), wanted, "behind A, margin {margin}");
+    }
+    // Case N.
+    let closed: [(usize, &[u16]); 4] = [(0, &[0, 3, 5, 12]), (1, &[0, 2, 6, 12]), (4, &[9, 12]), (8, &[])];
+    for (margin, wanted) in closed {
+        assert_eq!(intervals(&four::with_margin(margin), &board(&[(1, 4, 4)]), 1), wanted, "cell 1 closed at 4, margin {margin}");
+    }
+}
+
+#[test]
+fn margin_between_a_tug_and_a_closure() {
+    let closes = [(0, 3, 3, 17), (0, 4, 4, 0), (1, 4, 4, 17), (1, 5, 5, 0), (1, 0, 0, 17), (2, 5, 12, 17), (2, 6, 12, 0)];
+    for (margin, first, last, number) in closes {
+        let (site, mut board) = behind_a(margin);
+        let before = board.clone();
+        assert_eq!(desk::close(&encode(&site), &mut board, 200, 1, first, last), Answer::plain(number), "margin {margin}, {first} to {last}");
+        assert_eq!(board == before, number != 0);
+    }
+    // A's light, with cell 1 closed behind it.
+    let site = encode(&four::with_margin(1));
+    let light = Light { edition: 1, tug: 7, start: 0, tick: 0, goal: 4, arrival: 5, dwell: 0, steps: A_STEPS.to_vec() }.encode();
+    for (tick, number) in [(5, 0), (4, 17)] {
+        assert_eq!(desk::audit(&site, &board(&[(1, tick, tick)]), &light), Answer::plain(number), "cell 1 closed at {tick}");
+    }
+}
+
+#[test]
+fn closures_may_touch() {
+    let site = encode(&four::with_margin(20));
+    let mut board = vec![0; 56];
+    for (holder, first, last, number) in [(200, 0, 5, 0), (201, 6, 8, 0), (202, 8, 9, 17), (202, 9, 9, 0)] {
+        assert_eq!(desk::close(&site, &mut board, holder, 3, first, last), Answer::plain(number), "closure {holder} from {first} to {last}");
+    }
+    assert_eq!(board[4 + 13 * 3..], [200, 200, 200, 200, 200, 200, 201, 201, 201, 202, 0, 0, 0]);
+}
+
+/// Cell 1 has byte 255 at 4: it keeps tugs away as others do, and closures only from its own pair.
+#[test]
+fn margin_and_byte_255() {
+    let site = four::with_margin(1);
+    let file = encode(&site);
+    let mut before = vec![0; 56];
+    before[4 + 13 + 4] = 255;
+    let light = Light { edition: 0, tug: 7, start: 0, tick: 0, goal: 4, arrival: 5, dwell: 0, steps: A_STEPS.to_vec() }.encode();
+    assert_eq!(desk::audit(&file, &before, &light), Answer::plain(17));
+    assert_eq!(intervals(&site, &before, 1), [0, 2, 6, 12]);
+    for (first, last, number) in [(5, 5, 0), (3, 3, 0), (4, 4, 17), (3, 4, 17)] {
+        let mut board = before.clone();
+        assert_eq!(desk::close(&file, &mut board, 200, 1, first, last), Answer::plain(number), "{first} to {last}");
+    }
+}
+
+/// Cell 3 is closed at 9, so with margin 1 a tug may unload there until 7.
+#[test]
+fn margin_of_a_dwell() {
+    let (site, board) = (four::with_margin(1), board(&[(3, 9, 9)]));
+    for (dwell, wanted) in [(2, Answer { number: 0, value: 33, arrival: 5 }), (3, Answer::plain(18))] {
+        assert_eq!(route_on(&site, &board, 0, 0, 4, dwell).0, wanted, "dwell {dwell}");
+        let light = Light { edition: 1, tug: 7, start: 0, tick: 0, goal: 4, arrival: 5, dwell, steps: A_STEPS.to_vec() }.encode();
+        assert_eq!(desk::audit(&encode(&site), &board, &light).number, if dwell == 2 { 0 } else { 17 }, "dwell {dwell}");
     }
 }

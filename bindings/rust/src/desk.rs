@@ -63,7 +63,7 @@ impl Desk {
     /// ```
     /// use dispatch::{Desk, Refusal};
     ///
-    /// let site = [1, 0, 5, 0, 9, 1, 0, 1, 2, 0, 2, 0, 0];
+    /// let site = [1, 0, 6, 0, 9, 1, 0, 1, 0, 2, 0, 2, 0, 0];
     /// let mut desk = Desk::open(&site)?;
     /// desk.close(200, 0, 3..=4)?;
     /// let kept = desk.board().to_vec();
@@ -108,7 +108,8 @@ impl Desk {
         inside.then(|| self.board[4 + usize::from(cell) * self.sizes.ticks() + usize::from(tick)])
     }
 
-    /// The safe intervals of a cell, in rising order: the runs of free ticks that can't be lengthened.
+    /// The safe intervals of a cell, in rising order: the runs of free ticks that can't be lengthened. A cell is free at a tick if nobody
+    /// holds it from the site's margin before it to the margin after it.
     pub fn intervals(&self, cell: u16) -> Result<Vec<RangeInclusive<u16>>, Refusal> {
         let mut numbers = vec![0; self.sizes.interval_numbers()];
         let count = calls::interval(&self.site, &self.board, cell, &mut numbers).accepted()?.count();
@@ -137,7 +138,8 @@ impl Desk {
         calls::post(&self.site, &mut self.board, light).accepted().map(drop)
     }
 
-    /// Closes a cell for a run of ticks, under a closure's number, 200 to 254. The edition rises by 1.
+    /// Closes a cell for a run of ticks, under a closure's number, 200 to 254. Nobody may hold these ticks, and no tug the cell within the
+    /// site's margin of them; closures may touch each other. The edition rises by 1.
     pub fn close(&mut self, closure: u8, cell: u16, ticks: RangeInclusive<u16>) -> Result<(), Refusal> {
         calls::close(&self.site, &mut self.board, closure, cell, *ticks.start(), *ticks.end()).accepted().map(drop)
     }

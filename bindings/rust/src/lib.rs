@@ -11,7 +11,7 @@
 //! use dispatch::{Desk, Refusal, Trip};
 //!
 //! let site = [
-//!     1, 0, 5, 0, 20, 2, 0, 2, // head: the last tick is 20; 2 cells, 2 states
+//!     1, 0, 6, 0, 20, 2, 0, 2, 0, // head: the last tick is 20; 2 cells, 2 states, no margin
 //!     2, 0, 2, 0, 0, // state 0: standing on cell 0
 //!     2, 0, 2, 1, 0, // state 1: standing on cell 1
 //!     3, 0, 11, 0, 0, 0, 1, 2, 0, 0, 1, 1, 1, 2, // motion 0: from state 0 to 1 in 2 ticks, on cell 0 at 0 to 1 and on cell 1 at 1 to 2

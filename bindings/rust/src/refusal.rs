@@ -35,7 +35,7 @@ macro_rules! refusals {
 refusals! {
     SiteTooLong = 1, "the site file has more than 65,536 bytes";
     SiteCut = 2, "a field of the site file runs past the file's end";
-    SiteHead = 3, "the site file does not begin with a head of 5 bytes with H, C and S in range";
+    SiteHead = 3, "the site file does not begin with a head of 6 bytes with H, C, S and m in range";
     SiteLayout = 4, "the site file's states or motions have a wrong tag, length, order or number";
     StateCell = 5, "a state of the site names a cell that the hall does not have";
     Motion = 6, "a motion of the site breaks a rule on its values or sweeps";
@@ -49,7 +49,7 @@ refusals! {
     AreaShort = 14, "a lent area is too short";
     LastEdition = 15, "the board is at its last edition, 4,294,967,295";
     StaleLight = 16, "the light was made from another edition of the board";
-    Conflict = 17, "a wanted cell is held then, or the light is not a valid plan to its goal and arrival";
+    Conflict = 17, "a wanted cell is held or near a tug, or the light is no valid plan to its goal and arrival";
     NoPlan = 18, "no valid plan exists";
     TooFar = 19, "the distance is above 511 decimetres";
 }

@@ -4,33 +4,32 @@ use Prim.Native.Nat.{ℕ, zero, suc, _+_, _*_, _-_, _≤_, _<_}
 use native.Mathlib.Omega.{arith}
 use native.Mathlib.Numerals.{add-one}
 use native.Mathlib.Nat.{zero-add}
-use mathlib.Core.Path.{_≡_, refl, sym, ap, ap₂, _∙_}
+use mathlib.Core.Path.{_≡_, refl, sym, ap, ap₂, _∙_, fun-ext}
 use mathlib.Core.Bool.{Bool, true, false, and-true, and-false}
 use mathlib.Core.List.{List, [], _∷_, _++_}
-use borrow.Author.Tests.{lt-ltb}
-use lib.Dec.{leb, ltb, eqb}
 use lib.ListN.{length, getD, set, drop, length-set}
 use lib.Seq.{sets, sets-eq}
-use Rattle.meaning.specs.Limits.{header}
-use Rattle.meaning.specs.Basics.{every}
 use Rattle.meaning.specs.Site.{Site}
 use Rattle.meaning.specs.Board.{free}
 use Rattle.meaning.specs.Intervals.{Interval, begins, runEnd, intervalsFrom, intervals, numbersOf}
 use Rattle.meaning.specs.Calls.{over}
+use Rattle.meaning.proofs.BasicsLaws.{same-test}
+use Rattle.meaning.proofs.BytesLaws.{tells-free}
 use Rattle.meaning.proofs.IntervalLaws.{intervals-right}
 
--- ---- sites with one horizon
+-- ---- sites with one horizon and one margin
 
 -- a site that has the cell, and of which nothing else matters
-abbrev pub plain : ℕ → ℕ → Site
-plain horizon cell = record { horizon = horizon; cells = suc cell; states = []; motions = [] }
+abbrev pub plain : ℕ → ℕ → ℕ → Site
+plain horizon margin cell = record { horizon = horizon; cells = suc cell; margin = margin; states = []; motions = [] }
 
-pub free-same : (site : Site) (board : List ℕ) (horizon c : ℕ) → site .horizon ≡ horizon → c < site .cells
-    → free (plain horizon c) board c ≡ free site board c
-unfolding free
-free-same site board horizon c same inside =
-    let cells : ltb c (suc c) ≡ ltb c (site .cells) = lt-ltb c (suc c) (omega arith) ∙ sym (lt-ltb c (site .cells) inside) in
-    ap₂ {C = ℕ → Bool} (λ (b : Bool) (w : ℕ) (t : ℕ). every (b ∷ leb t w ∷ eqb (getD board (header + c * (w + 1) + t) 0) 0 ∷ [])) cells (sym same)
+pub free-same : (site : Site) (board : List ℕ) (horizon margin c : ℕ) → site .horizon ≡ horizon → site .margin ≡ margin → c < site .cells
+    → free (plain horizon margin c) board c ≡ free site board c
+free-same site board horizon margin c same spaced inside =
+    let here : Site = plain (site .horizon) (site .margin) c in
+    rw (← same, ← spaced) (fun-ext (λ t. same-test _ _
+    (λ h. let (hc, ht, zeros) = tells-free here board c t .then h in tells-free site board c t .back (inside, ht, zeros))
+    (λ h. let (hc, ht, zeros) = tells-free site board c t .then h in tells-free here board c t .back (omega arith, ht, zeros))))
 
 -- ---- where an interval begins
 

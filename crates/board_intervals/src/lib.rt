@@ -10,28 +10,28 @@ ghost use Rattle.meaning.specs.Calls.{over};
 ghost use Rattle.board_ticks.specs.Runs.{Row};
 
 // Does an interval begin at the tick?
-fn begins_at(board: &[u8], horizon: usize, cell: usize, t: usize) -> bool
+fn begins_at(board: &[u8], horizon: usize, margin: usize, cell: usize, t: usize) -> bool
     requires { ⌜ Row (length (now board)) horizon cell t ⌝ }
-    ensures { λ r. ⌜ ((site : Site) → site .horizon ≡ horizon → cell < site .cells → r ≡ begins (free site (now (board .entry)) cell) t) ⌝ }
+    ensures { λ r. ⌜ ((site : Site) → site .horizon ≡ horizon → site .margin ≡ margin → cell < site .cells → r ≡ begins (free site (now (board .entry)) cell) t) ⌝ }
 {
     if t == 0 {
-        return board_ticks::is_free(board, horizon, cell, t);
+        return board_ticks::is_free(board, horizon, margin, cell, t);
     }
-    if board_ticks::is_free(board, horizon, cell, t - 1) {
+    if board_ticks::is_free(board, horizon, margin, cell, t - 1) {
         return false;
     }
-    board_ticks::is_free(board, horizon, cell, t)
+    board_ticks::is_free(board, horizon, margin, cell, t)
 }
 
 // The last tick of the run of free ticks from the tick first on.
-fn run_end(board: &[u8], horizon: usize, cell: usize, first: usize) -> usize
+fn run_end(board: &[u8], horizon: usize, margin: usize, cell: usize, first: usize) -> usize
     requires { ⌜ Row (length (now board)) horizon cell first ⌝ }
     ensures { λ r. ⌜ r ≤ horizon ⌝ }
-    ensures { λ r. ⌜ ((site : Site) → site .horizon ≡ horizon → cell < site .cells → r ≡ runEnd (free site (now (board .entry)) cell) first (horizon - first)) ⌝ }
+    ensures { λ r. ⌜ ((site : Site) → site .horizon ≡ horizon → site .margin ≡ margin → cell < site .cells → r ≡ runEnd (free site (now (board .entry)) cell) first (horizon - first)) ⌝ }
 {
     let mut t = first;
     while t + 1 <= horizon {
-        if !board_ticks::is_free(board, horizon, cell, t + 1) {
+        if !board_ticks::is_free(board, horizon, margin, cell, t + 1) {
             return t;
         }
         t += 1;
@@ -51,17 +51,23 @@ fn put_interval(out: &mut [u16], k: usize, first: usize, last: usize)
 }
 
 // Writes the first and last tick of each interval of the cell, in rising order, and returns how many there are.
-pub fn write_intervals(board: &[u8], horizon: usize, cell: usize, out: &mut [u16]) -> usize
+pub fn write_intervals(
+    board: &[u8],
+    horizon: usize,
+    margin: usize,
+    cell: usize,
+    out: &mut [u16],
+) -> usize
     requires { ⌜ Row (length (now board)) horizon cell horizon ⌝ }
     requires { ⌜ horizon + 2 ≤ length (now out) ⌝ }
-    ensures { λ r. ⌜ ((site : Site) → site .horizon ≡ horizon → cell < site .cells → r ≡ length (intervals (free site (now (board .entry)) cell) horizon)) ⌝ }
-    ensures { λ r. ⌜ ((site : Site) → site .horizon ≡ horizon → cell < site .cells → now (out .exit) ≡ over (numbersOf (intervals (free site (now (board .entry)) cell) horizon)) (now (out .entry))) ⌝ }
+    ensures { λ r. ⌜ ((site : Site) → site .horizon ≡ horizon → site .margin ≡ margin → cell < site .cells → r ≡ length (intervals (free site (now (board .entry)) cell) horizon)) ⌝ }
+    ensures { λ r. ⌜ ((site : Site) → site .horizon ≡ horizon → site .margin ≡ margin → cell < site .cells → now (out .exit) ≡ over (numbersOf (intervals (free site (now (board .entry)) cell) horizon)) (now (out .entry))) ⌝ }
 {
     let mut k = 0;
     let mut t = 0;
     while t <= horizon {
-        if begins_at(board, horizon, cell, t) {
-            let last = run_end(board, horizon, cell, t);
+        if begins_at(board, horizon, margin, cell, t) {
+            let last = run_end(board, horizon, margin, cell, t);
             put_interval(out, k, t, last);
             k += 1;
         }

@@ -35,6 +35,12 @@ cells-of site e = ap (λ (k : Sizes). k .cells) e
 pub horizon-of : {l : Sizes} (site : Site) → l ≡ sizesOf site → l .horizon ≡ site .horizon
 horizon-of site e = ap (λ (k : Sizes). k .horizon) e
 
+pub margin-of : {l : Sizes} (site : Site) → l ≡ sizesOf site → l .margin ≡ site .margin
+margin-of site e = ap (λ (k : Sizes). k .margin) e
+
+pub ready-margin : {file : List ℕ} {room : ℕ} {l : Sizes} → Ready file room l → siteOf file .margin ≡ l .margin
+ready-margin {file} r = sym (margin-of (siteOf file) (r .sizes))
+
 pub ready-horizon : {file : List ℕ} {room : ℕ} {l : Sizes} → Ready file room l → siteOf file .horizon ≡ l .horizon
 ready-horizon {file} r = sym (horizon-of (siteOf file) (r .sizes))
 
@@ -45,7 +51,7 @@ ready-row {file} {room} r cell tick hc ht =
 
 -- a site of which nothing but the horizon matters
 abbrev pub bare : ℕ → Site
-bare horizon = record { horizon = horizon; cells = 0; states = []; motions = [] }
+bare horizon = record { horizon = horizon; cells = 0; margin = 0; states = []; motions = [] }
 
 -- ---- a run that is named
 

@@ -64,9 +64,10 @@ pub fn close_refusal(board: &[u8], l: Sizes, holder: u8, cell: u16, first: u16, 
     if checks::at_last_edition(board) {
         return 15;
     }
-    if !board_ticks::run_free(
+    if !board_ticks::run_closable(
         board,
         l.horizon,
+        l.margin,
         cell as usize,
         first as usize,
         last as usize,

@@ -36,7 +36,13 @@ pub fn interval(file: &[u8], board: &[u8], cell: u16, out: &mut [u16]) -> Counte
             if number != 0 {
                 return Counted::Refused(number);
             }
-            let found = board_intervals::write_intervals(board, l.horizon, cell as usize, out);
+            let found = board_intervals::write_intervals(
+                board,
+                l.horizon,
+                l.margin,
+                cell as usize,
+                out,
+            );
             let count = found as u16;
             Counted::Counted(count)
         }

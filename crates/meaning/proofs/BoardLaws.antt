@@ -4,19 +4,20 @@ use Prim.Native.Nat.{ℕ, suc, _+_, _*_, _-_, _/_, _%_, _≤_, _<_}
 use native.Mathlib.Nat.{div-lt-iff-lt-mul, div-add-mod', mod-lt}
 use native.Mathlib.Omega.{arith}
 use mathlib.Core.Path.{_≡_, refl, sym, ap, ap₂, _∙_, subst}
-use mathlib.Core.Bool.{Bool, true, false, cond, true≢false}
+use mathlib.Core.Bool.{Bool, true, false, cond, not, true≢false}
 use mathlib.Core.List.{List, [], _∷_, _++_, map}
 use lib.Dec.{leb, ltb, eqb}
-use borrow.Author.Tests.{leb-true, ltb-true, ltb-false, eqb-true, eq-eqb}
+use borrow.Author.Tests.{leb-true, le-leb, ltb-true, ltb-false, eqb-true, eq-eqb, not-true}
 use lib.ListN.{length, getD, take, drop, set, length-append, length-drop, length-set, length-map, List·getD-map, take-append-drop}
 use lib.Seq.{getD-drop, getD-set-same, getD-set-other, getD-append-add, length-take-le}
 use lib.Arith.{digits-lt}
 use Rattle.meaning.specs.Limits.{header, lastEdition}
 use Rattle.meaning.specs.Basics.{every, any, all}
 use Rattle.meaning.specs.Site.{Site}
-use Rattle.meaning.specs.Board.{Free, boardLength, place, byteAt, edition, Pair, allFree, mark, clear, withEdition}
+use Rattle.meaning.specs.Board.{Free, clearFromTo, clearAround, boardLength, place, byteAt, edition, Pair, allFree, mark, clear, withEdition}
 use Rattle.meaning.specs.PlainBoard.{hasPair}
-use Rattle.meaning.proofs.BasicsLaws.{every-at, every-nil, every-cons, decide, all-nil, all-cons, all-head, all-tail, u32-back}
+use Rattle.meaning.specs.Refusals.{Within}
+use Rattle.meaning.proofs.BasicsLaws.{every-at, every-nil, every-cons, every-fails, decide, same-test, allFrom-in, allFrom-true, all-nil, all-cons, all-head, all-tail, u32-back}
 
 -- ---- the edition's bytes
 
@@ -33,6 +34,40 @@ edition-small board bytes =
     let b2 = bytes 2 in
     let b3 = bytes 3 in
     omega arith
+
+-- ---- within the margin
+
+module _ (site : Site) where
+  from-to-at : (bad : ℕ → Bool) (first last x : ℕ) → clearFromTo site bad first last ≡ true → first ≤ x → x ≤ last → x ≤ site .horizon → bad x ≡ false
+  unfolding clearFromTo
+  from-to-at bad first last x h lo hi in-time =
+      let here : not (every (leb x (site .horizon) ∷ bad x ∷ [])) ≡ true =
+      allFrom-in (λ (y : ℕ). not (every (leb y (site .horizon) ∷ bad y ∷ []))) first (suc last - first) x h lo (omega arith) in
+      decide (bad x) (λ e. absurd (true≢false (sym (every-cons _ _ (le-leb _ _ in-time) (every-cons _ _ e every-nil)) ∙ not-true _ here))) (λ e. e)
+
+  from-to-made : (bad : ℕ → Bool) (first last : ℕ) → ((x : ℕ) → first ≤ x → x ≤ last → x ≤ site .horizon → bad x ≡ false)
+      → clearFromTo site bad first last ≡ true
+  unfolding clearFromTo
+  from-to-made bad first last h =
+      allFrom-true (λ (y : ℕ). not (every (leb y (site .horizon) ∷ bad y ∷ []))) first (suc last - first)
+      (λ x lo hi. decide (leb x (site .horizon))
+      (λ e. ap not (every-fails _ 1 (h x lo (omega arith) (leb-true _ _ e))))
+      (λ e. ap not (every-fails _ 0 e)))
+
+  pub clear-at : (bad : ℕ → Bool) (t x : ℕ) → clearAround site bad t ≡ true → x ≤ site .horizon → Within site t x → bad x ≡ false
+  unfolding clearAround
+  clear-at bad t x h in-time (lo, hi) = from-to-at bad _ _ x h (omega arith) (omega arith) in-time
+
+  pub clear-made : (bad : ℕ → Bool) (t : ℕ) → ((x : ℕ) → x ≤ site .horizon → Within site t x → bad x ≡ false) → clearAround site bad t ≡ true
+  unfolding clearAround
+  clear-made bad t h = from-to-made bad _ _ (λ x lo hi in-time. h x in-time (omega arith, omega arith))
+
+  -- two tests that agree up to the horizon
+  pub clear-same : (bad worse : ℕ → Bool) (t : ℕ) → ((x : ℕ) → x ≤ site .horizon → bad x ≡ worse x) → clearAround site bad t ≡ clearAround site worse t
+  clear-same bad worse t same =
+      same-test _ _
+      (λ h. clear-made worse t (λ x le near. sym (same x le) ∙ clear-at bad t x h le near))
+      (λ h. clear-made bad t (λ x le near. same x le ∙ clear-at worse t x h le near))
 
 -- ---- where a pair's byte is
 

@@ -1,23 +1,23 @@
--- What free and standing mean of a board's bytes, and which numbers are holders.
+-- What free, closable and standing mean of a board's bytes, and which numbers are holders.
 -- Assumes nothing.
-use Prim.Native.Nat.{ℕ, _+_, _*_, _-_, _<_}
+use Prim.Native.Nat.{ℕ, zero, suc, _+_, _*_, _-_, _≤_, _<_}
 use native.Mathlib.Omega.{arith}
-use mathlib.Core.Path.{_≡_, sym, ap, _∙_}
-use mathlib.Core.Bool.{true}
+use mathlib.Core.Path.{_≡_, refl, sym, ap, _∙_}
+use mathlib.Core.Bool.{Bool, true, false, not}
 use mathlib.Core.List.{List}
 use lib.Dec.{eqb}
-use borrow.Author.Tests.{eqb-true, eq-eqb}
+use borrow.Author.Tests.{eqb-true, eq-eqb, not-false}
 use lib.ListN.{length, getD, drop, length-drop}
 use lib.Seq.{getD-drop}
 use Rattle.meaning.specs.Limits.{header}
 use Rattle.meaning.specs.Basics.{any}
 use Rattle.meaning.specs.Site.{Site}
-use Rattle.meaning.specs.Board.{free, stands, isTug, isClosure, isHolder, boardLength, place, byteAt}
-use Rattle.meaning.specs.Refusals.{Tug, Closure, Holder, HasByte, Stands, BytesRight}
+use Rattle.meaning.specs.Board.{clearAround, free, closable, stands, isTug, isClosure, isHolder, boardLength, place, byteAt}
+use Rattle.meaning.specs.Refusals.{Not, Tug, Closure, Holder, HasByte, Stands, bytesSight, Within, Unheld, FreeFor, MayClose, ZeroAround, BytesRight}
 use Rattle.meaning.proofs.BasicsLaws.{any-at, any-from}
 use Rattle.meaning.proofs.HolderLaws.{holders-right}
-use Rattle.meaning.proofs.BoardLaws.{place-in, pair-at}
-use Rattle.meaning.proofs.SentenceLaws.{Tells, tells-le, tells-lt, tells-eq, tells-two, tells-three}
+use Rattle.meaning.proofs.BoardLaws.{clear-at, clear-made, place-in, pair-at}
+use Rattle.meaning.proofs.SentenceLaws.{Tells, misses, fails, tells-as, tells-le, tells-lt, tells-eq, tells-two, tells-three, tells-four}
 
 -- ---- holders
 
@@ -30,12 +30,74 @@ tells-closure h = record { then = holders-right .closures h; back = λ (lo, hi).
 pub tells-holder : (h : ℕ) → Tells (isHolder h) (Holder h)
 tells-holder h = record { then = holders-right .holders h; back = λ (lo, hi). holders-right .all-holders h lo hi }
 
+-- ---- within the margin
+
+pub tells-clear : (site : Site) (bad : ℕ → Bool) (Bad : ℕ → Type 0) → ((x : ℕ) → Tells (bad x) (Bad x))
+    → (t : ℕ) → Tells (clearAround site bad t) ((x : ℕ) → x ≤ site .horizon → Within site t x → Not (Bad x))
+tells-clear site bad Bad tells t = record {
+  then = λ h x le near. misses (tells x) (clear-at site bad t x h le near);
+  back = λ none. clear-made site bad t (λ x le near. fails (tells x) (none x le near));
+}
+
 -- ---- bytes of a board
 
 module _ (site : Site) (board : List ℕ) where
-  pub tells-free : (c t : ℕ) → Tells (free site board c t) (HasByte site board 0 c t)
+  pub tells-free : (c t : ℕ) → Tells (free site board c t) (ZeroAround site board c t)
   unfolding free
-  tells-free c t = tells-three (tells-lt c (site .cells)) (tells-le t (site .horizon)) (tells-eq (byteAt site board c t) 0)
+  tells-free c t =
+      tells-three (tells-lt c (site .cells)) (tells-le t (site .horizon)) (record {
+        then = λ h x le near. eqb-true _ 0 (not-false _ (clear-at site _ t x h le near));
+        back = λ zeros. clear-made site _ t (λ x le near. ap not (eq-eqb _ 0 (zeros x le near)));
+      })
+
+  -- a byte is 0 exactly where nobody holds the pair
+  zero-unheld : (c x : ℕ) → byteAt site board c x ≡ 0 → (h : ℕ) → Not ((1 ≤ h) × HasByte site board h c x)
+  zero-unheld c x e h (pos, (hc, ht, same)) = omega arith
+
+  pub unheld-zero : (c x : ℕ) → c < site .cells → x ≤ site .horizon → ((h : ℕ) → Not ((1 ≤ h) × HasByte site board h c x)) → byteAt site board c x ≡ 0
+  unheld-zero c x hc ht none = of (byteAt site board c x) refl
+    where
+      of : (b : ℕ) → byteAt site board c x ≡ b → byteAt site board c x ≡ 0
+      of zero e = e
+      of (suc b) e = absurd (none (suc b) (omega arith, (hc, ht, e)))
+
+  pub tells-free-for : (c t : ℕ) → Tells (free site board c t) (FreeFor site (bytesSight site board) c t)
+  tells-free-for c t =
+      tells-as (tells-free c t)
+      (λ (hc, ht, zeros). (hc, ht, λ h x le near. zero-unheld c x (zeros x le near) h))
+      (λ (hc, ht, none). (hc, ht, λ x le near. unheld-zero c x hc le (λ h. none h x le near)))
+
+  -- no tug's byte, and nobody who is a tug
+  tug-byte : (c x : ℕ) → Not (Tug (byteAt site board c x)) → (h : ℕ) → Tug h → Not ((1 ≤ h) × HasByte site board h c x)
+  tug-byte c x none h (lo, hi) (pos, (hc, ht, same)) = none (omega arith, omega arith)
+
+  tells-bytes : (c t : ℕ) → Tells (closable site board c t)
+      ((c < site .cells) × (t ≤ site .horizon) × (byteAt site board c t ≡ 0) × ((x : ℕ) → x ≤ site .horizon → Within site t x → Not (Tug (byteAt site board c x))))
+  unfolding closable
+  tells-bytes c t =
+      tells-four (tells-lt c (site .cells)) (tells-le t (site .horizon)) (tells-eq (byteAt site board c t) 0) (record {
+        then = λ h x le near. misses (tells-tug _) (clear-at site _ t x h le near);
+        back = λ none. clear-made site _ t (λ x le near. fails (tells-tug _) (none x le near));
+      })
+
+  pub tells-closable : (c t : ℕ) → Tells (closable site board c t) (MayClose site (bytesSight site board) c t)
+  tells-closable c t =
+      tells-as (tells-bytes c t)
+      (λ (hc, ht, e, none). ((hc, ht, zero-unheld c t e), λ h x le near. tug-byte c x (none x le near) h))
+      (λ ((hc, ht, free-there), none). (
+        hc,
+        ht,
+        unheld-zero c t hc ht free-there,
+        λ x le near (lo, hi). none (byteAt site board c x) x le near (lo, hi) (lo, (hc, le, refl)),
+      ))
+
+  no-margin : (c t : ℕ) → site .margin ≡ 0 → HasByte site board 0 c t → (free site board c t ≡ true) × (closable site board c t ≡ true)
+  no-margin c t none (hc, ht, e) =
+      let here : (x : ℕ) → Within site t x → byteAt site board c x ≡ 0 =
+      λ x (lo, hi). let same : x ≡ t = omega arith in rw same e in (
+        tells-free c t .back (hc, ht, λ x le near. here x near),
+        tells-bytes c t .back (hc, ht, e, λ x le near (lo, hi). let zero-there = here x near in omega arith),
+      )
 
   module _ (size : length board ≡ boardLength site) where
     carried : (h : ℕ) → any (λ (b : ℕ). eqb b h) (drop header board) ≡ true → (c : ℕ) × (t : ℕ) × HasByte site board h c t
@@ -60,8 +122,11 @@ module _ (site : Site) (board : List ℕ) where
 
 pub bytes-right : BytesRight
 bytes-right = record {
-  free-pairs = λ site board c t. tells-free site board c t .then;
-  all-free-pairs = λ site board c t. tells-free site board c t .back;
+  free-bytes = λ site board c t. tells-free site board c t .then;
+  all-free-bytes = λ site board c t. tells-free site board c t .back;
+  closable-pairs = λ site board c t. tells-closable site board c t .then;
+  all-closable-pairs = λ site board c t. tells-closable site board c t .back;
+  no-margin = no-margin;
   standing = λ site board size h. tells-stands site board size h .then;
   all-standing = λ site board size h. tells-stands site board size h .back;
 }

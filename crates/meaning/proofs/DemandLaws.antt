@@ -14,7 +14,7 @@ use Rattle.meaning.specs.Limits.{lastEdition}
 use Rattle.meaning.specs.Basics.{all, Bytes}
 use Rattle.meaning.specs.Answers.{Refusal, _if_, lowest, Clears, accepted}
 use Rattle.meaning.specs.Site.{Site, siteOf, siteRefusals, readSite}
-use Rattle.meaning.specs.Board.{free, boardLength, byteAt, edition, Pair, runTo, allFree, mark, clear, nextEdition}
+use Rattle.meaning.specs.Board.{free, closable, boardLength, byteAt, edition, Pair, runTo, allFree, mark, clear, nextEdition}
 use Rattle.meaning.specs.Plan.{Node}
 use Rattle.meaning.specs.Reach.{Route}
 use Rattle.meaning.specs.Light.{Light, startOf, goalOf, encode, lightOf, decode}
@@ -94,15 +94,20 @@ module _ (site : Site) (board new : List ℕ) (Pairs : ℕ → ℕ → Type 0) (
         elsewhere = λ c t hc ht p. byte-edition site (edition board + 1) new c t ∙ elsewhere c t hc ht p;
       }
 
--- marked pairs, where a set of pairs is those of a list that are free
+-- pairs that are free or closable are of the site
+free-in : (site : Site) (board : List ℕ) (ps : List Pair) → allFree (free site board) ps ≡ true → InSite site ps
+unfolding free
+free-in site board ps ok = in-site site (free site board) (λ c t e. every-cons _ _ (every-at _ e 0) (every-cons _ _ (every-at _ e 1) every-nil)) ps ok
+
+close-in : (site : Site) (board : List ℕ) (ps : List Pair) → allFree (closable site board) ps ≡ true → InSite site ps
+unfolding closable
+close-in site board ps ok = in-site site (closable site board) (λ c t e. every-cons _ _ (every-at _ e 0) (every-cons _ _ (every-at _ e 1) every-nil)) ps ok
+
+-- marked pairs, where a set of pairs is those of a list
 module _ (site : Site) (board : List ℕ) (h : ℕ) (ps : List Pair) (Pairs : ℕ → ℕ → Type 0) (bytes : Bytes board)
     (early : eqb (edition board) lastEdition ≡ false) (size : length board ≡ boardLength site)
-    (ok : allFree (free site board) ps ≡ true)
+    (inside : InSite site ps)
     (has : (c t : ℕ) → Pairs c t → hasPair ps c t ≡ true) (only : (c t : ℕ) → hasPair ps c t ≡ true → Pairs c t) where
-  inside : InSite site ps
-  unfolding free
-  inside = in-site site (free site board) (λ c t e. every-cons _ _ (every-at _ e 0) (every-cons _ _ (every-at _ e 1) every-nil)) ps ok
-
   marked : Rewritten site board (nextEdition board (mark site h ps board)) Pairs h
   marked =
       rewritten site board (mark site h ps board) Pairs h bytes early size (length-mark site h ps board)
@@ -121,7 +126,7 @@ module _ (file : List ℕ) (l : Lent) where
   well : (q : PublicCall) → meant file l q .number ≡ 0 → WellFormed site
   well q z = read-well file site (parts-read file l q (accepted-parts file l q z))
 
-  sees : (q : PublicCall) → meant file l q .number ≡ 0 → Sees (bytesView site (l .board)) (bytesSight site (l .board))
+  sees : (q : PublicCall) → meant file l q .number ≡ 0 → Sees site (bytesView site (l .board)) (bytesSight site (l .board))
   sees q z = bytes-seen site (l .board) (size q z)
 
   small : Bytes (l .board) → edition (l .board) ≤ 4294967295
@@ -145,7 +150,7 @@ module _ (file : List ℕ) (l : Lent) where
       let (h9, (h10, (h12, (h15, (h17, rest))))) = accepted-parts file l q z .later in
       rw is (
         (refl, refl, refl),
-        marked site (l .board) h (runTo cell first last) (λ c t. (c ≡ cell) × (first ≤ t) × (t ≤ last)) bytes h15 (size q z) (not-false _ h17)
+        marked site (l .board) h (runTo cell first last) (λ c t. (c ≡ cell) × (first ≤ t) × (t ≤ last)) bytes h15 (size q z) (close-in site (l .board) (runTo cell first last) (not-false _ h17))
             (λ c t p. has-run-to cell first last c t (p .0) (p .1) (p .2))
             (λ c t e. in-run-to cell first last c t e),
         close-accepted site (well q z) (bytesView site (l .board)) (bytesSight site (l .board)) (sees q z) (small bytes) h cell first last (accepted-parts file l q z .later),
@@ -188,7 +193,7 @@ module _ (file : List ℕ) (l : Lent) where
         light-decode light (not-false _ h8),
         (refl, refl, refl),
         marked site (l .board) (x .tug) (lightPairs site x) (Holds site (startOf x) (x .steps) (goalOf x) (x .dwell)) bytes h15 (size q z)
-            (light-free site (free site (l .board)) x (not-false _ h17))
+            (free-in site (l .board) (lightPairs site x) (light-free site (free site (l .board)) x (not-false _ h17)))
             (λ c t p. held-pairs site (startOf x) (x .steps) (goalOf x) (x .dwell) c t p)
             (λ c t e. pairs-held site (startOf x) (x .steps) (goalOf x) (x .dwell) c t e),
         light-accepted site (well q z) (bytesView site (l .board)) (bytesSight site (l .board)) (sees q z) (small bytes) light (accepted-parts file l q z .later),

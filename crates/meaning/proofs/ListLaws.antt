@@ -16,15 +16,15 @@ use Rattle.meaning.specs.Board.{Free, isTug, isClosure, isHolder, boardL
 use Rattle.meaning.specs.Plan.{planEnd, planPairs}
 use Rattle.meaning.specs.Light.{Light, startOf, goalOf, lightOf}
 use Rattle.meaning.specs.Calls.{Call, route, audit, post, close, withdraw, opening, listed, View, bytesView, runNamed, isAt, lightValid, lightRefusals, closeRefusals, withdrawRefusals, callRefusals, Lent, roomOf, refusals, lightPairs, changed, Done, acceptedDone, doneBy, meant}
-use Rattle.meaning.specs.PlainBoard.{Plain, emptyPlain, plainFree, plainView, plainChanged, seenBy, Seen, plainNumber, plainSeen, plainBy, plainAfter}
+use Rattle.meaning.specs.PlainBoard.{Plain, emptyPlain, plainFree, plainClosable, plainView, plainChanged, seenBy, Seen, plainNumber, plainSeen, plainBy, plainAfter}
 use Rattle.meaning.specs.WellFormed.{WellFormed}
 use Rattle.meaning.specs.Demands.{Desk, Exact, Turn, Follows, boardAfter, seen, plainAfterAll, plainSeenAll, RouteRight, RouteTurn, ListRight, Demand3}
-use Rattle.meaning.proofs.BasicsLaws.{every-at, options}
+use Rattle.meaning.proofs.BasicsLaws.{decide, every-at, options}
 use Rattle.meaning.proofs.AnswersLaws.{Passed, lowest-none, rise-none, later-rise, site-rise}
 use Rattle.meaning.proofs.HolderLaws.{holders-right}
 use Rattle.meaning.proofs.PlanLaws.{plan-free}
 use Rattle.meaning.proofs.SiteLaws.{read-site, read-well}
-use Rattle.meaning.proofs.PlainLaws.{Agree, same-edition, same-view, board-bytes, opened-agrees, entered, released, no-two-in, known-in}
+use Rattle.meaning.proofs.PlainLaws.{Agree, same-edition, same-view, board-bytes, opened-agrees, tug-entered, closure-entered, released, no-two-in, known-in, spaced-in}
 use Rattle.meaning.proofs.CallLaws.{meant-by, meant-accepted, later-number, board-sized, accepted-parts, seenOf, done-seen, boardBy, done-board}
 use Rattle.meaning.proofs.RouteLaws.{route-right}
 
@@ -35,6 +35,11 @@ tug-holder h e = let (lo, hi) = holders-right .tugs h e in holders-right .all-ho
 
 closure-holder : (h : ℕ) → isClosure h ≡ true → isHolder h ≡ true
 closure-holder h e = let (lo, hi) = holders-right .closures h e in holders-right .all-holders h (omega arith) hi
+
+closure-no-tug : (h : ℕ) → isClosure h ≡ true → isTug h ≡ false
+closure-no-tug h e =
+    let (lo, hi) = holders-right .closures h e in
+    decide (isTug h) (λ t. let (low, high) = holders-right .tugs h t in absurd (omega arith)) (λ t. t)
 
 -- ---- an accepted call keeps the two boards in agreement
 
@@ -54,6 +59,10 @@ module _ (site : Site) (board : List ℕ) (p : Plain) (agree : Agree site board 
   unfolding plainView
   free-of = ap (λ (w : View). w .free) (same-view site board p agree)
 
+  closable-of : v .closable ≡ plainClosable site (p .entries)
+  unfolding plainView
+  closable-of = ap (λ (w : View). w .closable) (same-view site board p agree)
+
   edition-of : v .edition ≡ edition board
   unfolding bytesView
   edition-of = refl
@@ -65,7 +74,7 @@ module _ (site : Site) (board : List ℕ) (p : Plain) (agree : Agree site board 
   unfolding lightRefusals changed plainChanged planPairs
   post-agrees light (h8, (h9, (h10, (h11, (h12, (h15, (h16, (h17, rest)))))))) =
       let x : Light = lightOf light in
-      entered site board p agree (not-last h15) (x .tug) (tug-holder (x .tug) (not-false _ h9))
+      tug-entered site board p agree (not-last h15) (x .tug) (tug-holder (x .tug) (not-false _ h9))
       (record { cell = cellOf site (x .start); tick = x .tick }) _
       (subst (λ (f : Free). allFree f (lightPairs site x) ≡ true) free-of (light-free site (v .free) x (not-false _ h17)))
 
@@ -75,10 +84,10 @@ module _ (site : Site) (board : List ℕ) (p : Plain) (agree : Agree site board 
   close-agrees h cell first last (h9, (h10, (h12, (h15, (h17, rest))))) =
       let le : first ≤ last = leb-true _ _ (every-at _ (not-false _ h10) 3) in
       let count : suc last - first ≡ suc (last - first) = omega arith in
-      let free-run : allFree (plainFree site (p .entries)) (runTo cell first last) ≡ true =
-      subst (λ (f : Free). allFree f (runTo cell first last) ≡ true) free-of (not-false _ h17) in
+      let free-run : allFree (plainClosable site (p .entries)) (runTo cell first last) ≡ true =
+      subst (λ (f : Free). allFree f (runTo cell first last) ≡ true) closable-of (not-false _ h17) in
       rw count
-      (entered site board p agree (not-last h15) h (closure-holder h (not-false _ h9)) (record { cell = cell; tick = first }) _
+      (closure-entered site board p agree (not-last h15) h (closure-holder h (not-false _ h9)) (closure-no-tug h (not-false _ h9)) (record { cell = cell; tick = first }) _
       (rw count at free-run))
 
   withdraw-agrees : (h : ℕ) → Each Passed (withdrawRefusals v h) → Agree site (changed site board (withdraw h)) (plainChanged site p (withdraw h))
@@ -171,6 +180,7 @@ module _ (desk : Desk) (exact : Exact desk) (file : List ℕ) (ok : Each Passed 
         edition-fits = every-call .agree .fits;
         no-two = no-two-in (siteOf file) (last .entries) (every-call .agree .clean);
         known = known-in (siteOf file) (last .entries) (every-call .agree .clean);
+        spaced = spaced-in (siteOf file) (last .entries) (every-call .agree .clean);
         routes = every-call .routes;
       }
 

@@ -4,27 +4,29 @@ use Prim.Native.Nat.{ℕ, zero, suc, _+_, _*_, _-_, _≤_, _<_}
 use native.Mathlib.Nat.{suc-mul, not-suc-le-zero}
 use native.Mathlib.Omega.{arith}
 use mathlib.Core.Path.{_≡_, refl, sym, ap, ap₂, _∙_, fun-ext}
-use mathlib.Core.Bool.{Bool, true, false, cond, not, true≢false}
+use mathlib.Core.Bool.{Bool, true, false, cond, not, _&&_, true≢false}
 use mathlib.Core.List.{List, [], _∷_, _++_}
+use mathlib.Core.Logic.{_⊎_, inl, inr}
 use lib.Dec.{leb, ltb, eqb}
-use borrow.Author.Tests.{leb-true, le-leb, ltb-true, lt-ltb, eqb-true, eq-eqb, ne-eqb, not-true}
+use borrow.Author.Tests.{leb-true, ltb-true, ltb-false, eqb-true, eq-eqb, ne-eqb, not-true}
 use lib.ListN.{length, getD, take, drop, length-append, length-drop, replicate, length-replicate, getD-replicate, take-append-drop, List·getD-append}
 use lib.Seq.{getD-drop, getD-take, getD-append-add, ext-getD}
 use Rattle.meaning.specs.Limits.{header, lastEdition, lastClosure}
 use Rattle.meaning.specs.Basics.{every, any, tabulate, put32, here, there}
 use Rattle.meaning.specs.Site.{Site}
-use Rattle.meaning.specs.Board.{free, stands, isHolder, boardLength, place, byteAt, edition, Pair, allFree, mark, clear, withEdition, nextEdition}
+use Rattle.meaning.specs.Board.{Free, sortOf, isTug, free, closable, stands, isHolder, boardLength, place, byteAt, edition, Pair, allFree, mark, clear, withEdition, nextEdition}
 use Rattle.meaning.specs.Calls.{bytesView}
-use Rattle.meaning.specs.PlainBoard.{Entry, Plain, emptyPlain, hasPair, taken, holderAt, plainFree, hasEntry, plainView, without, withEntry, cellsFrom, bytesOf}
+use Rattle.meaning.specs.PlainBoard.{Entry, Plain, emptyPlain, hasPair, taken, holderAt, tugTaken, plainFree, plainClosable, hasEntry, plainView, without, withEntry, cellsFrom, bytesOf}
+use Rattle.meaning.specs.Refusals.{Tug, Within}
 use Rattle.meaning.specs.Demands.{Has}
 use Rattle.meaning.proofs.BasicsLaws.{decide, every-at, every-nil, every-cons, all-head, all-tail, any-here, any-there, any-case, any-nil, same-test, u32-back, length-tabulate, tabulate-at}
 use Rattle.meaning.proofs.HolderLaws.{holders-right}
-use Rattle.meaning.proofs.BytesLaws.{tells-holder, tells-free, tells-stands}
-use Rattle.meaning.proofs.BoardLaws.{place-in, pair-at, length-edition, byte-edition, InSite, in-site, length-mark, byte-mark, length-clear, byte-clear}
+use Rattle.meaning.proofs.BytesLaws.{tells-holder, tells-stands}
+use Rattle.meaning.proofs.BoardLaws.{clear-at, clear-same, place-in, pair-at, length-edition, byte-edition, InSite, in-site, length-mark, byte-mark, length-clear, byte-clear}
 
 -- ---- entries
 
--- an entry's holder is one, it has a pair of the site, and shares no pair with the entries before it
+-- an entry's holder is one, it has a pair, its pairs are of the site, and it shares none with the entries before it
 pub record Entered (site : Site) (e : Entry) (es : List Entry) : Type 0 where
   pub known : isHolder (e .holder) ≡ true
   pub cell : ℕ
@@ -32,7 +34,10 @@ pub record Entered (site : Site) (e : Entry) (es : List Entry) : Type 0 where
   pub cell-in : cell < site .cells
   pub tick-in : tick ≤ site .horizon
   pub has : hasPair (e .pairs) cell tick ≡ true
+  pub inside : InSite site (e .pairs)
   pub apart : (c t : ℕ) → hasPair (e .pairs) c t ≡ true → taken es c t ≡ false
+  -- and none of its pairs is near another's in the same cell, if one of the two is a tug
+  pub spaced : (k c t u : ℕ) → hasPair (e .pairs) c t ≡ true → Has es k c u → (isTug (e .holder) ≡ true) ⊎ (isTug k ≡ true) → Within site t u → ⊥
 
 abbrev pub Clean : Site → List Entry → Type 0
 Clean site [] = Unit {0}
@@ -48,6 +53,17 @@ hasHere c t e = hasPair (e .pairs) c t
 abbrev isOf : ℕ → Entry → Bool
 isOf h e = eqb (e .holder) h
 
+tug-taken : (es : List Entry) (c t : ℕ) → tugTaken es c t ≡ true → taken es c t ≡ true
+tug-taken [] c t h = absurd (true≢false (sym h ∙ any-nil (λ (x : Entry). every (isTug (x .holder) ∷ hasPair (x .pairs) c t ∷ []))))
+tug-taken (e ∷ es) c t h =
+    any-case (λ (x : Entry). every (isTug (x .holder) ∷ hasPair (x .pairs) c t ∷ [])) e es h
+    (λ q. any-here (hasHere c t) e es (every-at _ q 1))
+    (λ q k. any-there (hasHere c t) e es (tug-taken es c t k))
+
+not-not : (b : Bool) → not (not b) ≡ b
+not-not true = refl
+not-not false = refl
+
 module _ (site : Site) where
   -- a pair is in no entry exactly when its holder is 0
   free-holder : (es : List Entry) (c t : ℕ) → Clean site es → eqb (holderAt es c t) 0 ≡ not (taken es c t)
@@ -58,6 +74,20 @@ module _ (site : Site) where
       decide (hasPair (e .pairs) c t)
       (λ q. simp (q, ne-eqb (e .holder) 0 (omega arith)))
       (λ q. simp q (free-holder es c t clean))
+
+  -- and in one of a tug's exactly when its holder is a tug
+  tug-holder : (es : List Entry) (c t : ℕ) → Clean site es → isTug (holderAt es c t) ≡ tugTaken es c t
+  unfolding any every isTug sortOf
+  tug-holder [] c t h = refl
+  tug-holder (e ∷ es) c t (entered, clean) =
+      decide (hasPair (e .pairs) c t)
+      (λ q.
+      let others : tugTaken es c t ≡ false = no-tug-taken es c t (entered .apart c t q) in
+      decide (isTug (e .holder)) (λ s. simp (q, s)) (λ s. simp (q, s, others)))
+      (λ q. decide (isTug (e .holder)) (λ s. simp (q, s) (tug-holder es c t clean)) (λ s. simp (q, s) (tug-holder es c t clean)))
+    where
+      no-tug-taken : (es : List Entry) (c t : ℕ) → taken es c t ≡ false → tugTaken es c t ≡ false
+      no-tug-taken es c t h = decide (tugTaken es c t) (λ e. absurd (true≢false (sym (tug-taken es c t e) ∙ h))) (λ e. e)
 
   holder-none : (es : List Entry) (c t : ℕ) → Clean site es → taken es c t ≡ false → holderAt es c t ≡ 0
   holder-none es c t clean h = eqb-true _ _ (free-holder es c t clean ∙ ap not h)
@@ -106,6 +136,11 @@ has-taken : (es : List Entry) (h c t : ℕ) → Has es h c t → taken es c t �
 has-taken (e ∷ es) h c t (here (same, k)) = any-here (hasHere c t) e es k
 has-taken (e ∷ es) h c t (there s) = any-there (hasHere c t) e es (has-taken es h c t s)
 
+has-tug : (es : List Entry) (k c t : ℕ) → isTug k ≡ true → Has es k c t → tugTaken es c t ≡ true
+has-tug (e ∷ es) k c t tug (here (same, p)) =
+    any-here (λ (x : Entry). every (isTug (x .holder) ∷ hasPair (x .pairs) c t ∷ [])) e es (every-cons _ _ (ap isTug same ∙ tug) (every-cons _ _ p every-nil))
+has-tug (e ∷ es) k c t tug (there s) = any-there (λ (x : Entry). every (isTug (x .holder) ∷ hasPair (x .pairs) c t ∷ [])) e es (has-tug es k c t tug s)
+
 pub no-two-in : (site : Site) (es : List Entry) → Clean site es → (h k c t : ℕ) → Has es h c t → Has es k c t → h ≡ k
 no-two-in site (e ∷ es) (entered, clean) h k c t (here (same, p)) (here (same-too, q)) = sym same ∙ same-too
 no-two-in site (e ∷ es) (entered, clean) h k c t (here (same, p)) (there s) = absurd (true≢false (sym (has-taken es k c t s) ∙ entered .apart c t p))
@@ -116,6 +151,46 @@ no-two-in site (e ∷ es) (entered, clean) h k c t (there s) (there r) = no-two-
 pub known-in : (site : Site) (es : List Entry) → Clean site es → (h c t : ℕ) → Has es h c t → (1 ≤ h) × (h ≤ lastClosure)
 known-in site (e ∷ es) (entered, clean) h c t (here (same, p)) = holders-right .holders h (ap isHolder (sym same) ∙ entered .known)
 known-in site (e ∷ es) (entered, clean) h c t (there s) = known-in site es clean h c t s
+
+-- an entry's pairs are of the site
+pair-in : (site : Site) (ps : List Pair) (c t : ℕ) → InSite site ps → hasPair ps c t ≡ true → (c < site .cells) × (t ≤ site .horizon)
+pair-in site [] c t inside h = absurd (true≢false (sym h ∙ any-nil (λ (p : Pair). every (eqb (p .cell) c ∷ eqb (p .tick) t ∷ []))))
+pair-in site (q ∷ ps) c t inside h =
+    let test : Pair → Bool = λ (x : Pair). every (ltb (x .cell) (site .cells) ∷ leb (x .tick) (site .horizon) ∷ []) in
+    let this : every (ltb (q .cell) (site .cells) ∷ leb (q .tick) (site .horizon) ∷ []) ≡ true = all-head test q ps inside in
+    any-case (λ (p : Pair). every (eqb (p .cell) c ∷ eqb (p .tick) t ∷ [])) q ps h
+    (λ e.
+    let same-cell : q .cell ≡ c = eqb-true _ _ (every-at _ e 0) in
+    let same-tick : q .tick ≡ t = eqb-true _ _ (every-at _ e 1) in
+    let lo : q .cell < site .cells = ltb-true _ _ (every-at _ this 0) in
+    let hi : q .tick ≤ site .horizon = leb-true _ _ (every-at _ this 1) in
+    (omega arith, omega arith))
+    (λ e k. pair-in site ps c t (all-tail test q ps inside) k)
+
+pub has-in : (site : Site) (es : List Entry) (h c t : ℕ) → Clean site es → Has es h c t → (c < site .cells) × (t ≤ site .horizon)
+has-in site (e ∷ es) h c t (entered, clean) (here (same, p)) = pair-in site (e .pairs) c t (entered .inside) p
+has-in site (e ∷ es) h c t (entered, clean) (there s) = has-in site es h c t clean s
+
+-- a tug's pairs and another holder's in the same cell are more than the margin apart
+near-back : (site : Site) (t u : ℕ) → Within site t u → Within site u t
+near-back site t u (lo, hi) = (hi, lo)
+
+not-near : (site : Site) (es : List Entry) → Clean site es → (h k c t u : ℕ) → isTug h ≡ true → (h ≡ k → ⊥) → Has es h c t → Has es k c u → Within site t u → ⊥
+not-near site (e ∷ es) (entered, clean) h k c t u tug other (here (same, p)) (here (same-too, q)) near = other (sym same ∙ same-too)
+not-near site (e ∷ es) (entered, clean) h k c t u tug other (here (same, p)) (there s) near =
+    entered .spaced k c t u p s (inl (ap isTug same ∙ tug)) near
+not-near site (e ∷ es) (entered, clean) h k c t u tug other (there s) (here (same, p)) near =
+    entered .spaced h c u t p s (inr tug) (near-back site t u near)
+not-near site (e ∷ es) (entered, clean) h k c t u tug other (there s) (there r) near = not-near site es clean h k c t u tug other s r near
+
+pub spaced-in : (site : Site) (es : List Entry) → Clean site es → (h k c t u : ℕ) → Tug h → (h ≡ k → ⊥) → Has es h c t → Has es k c u
+    → (t + site .margin < u) ⊎ (u + site .margin < t)
+spaced-in site es clean h k c t u (lo, hi) other p q =
+    decide (ltb (t + site .margin) u)
+    (λ e. inl (ltb-true _ _ e))
+    (λ e. decide (ltb (u + site .margin) t)
+    (λ s. inr (ltb-true _ _ s))
+    (λ s. absurd (not-near site es clean h k c t u (holders-right .all-tugs h lo hi) other p q (ltb-false _ _ s, ltb-false _ _ e))))
 
 -- ---- a board of bytes and a plain board that agree
 
@@ -135,19 +210,29 @@ module _ (site : Site) (board : List ℕ) (p : Plain) (agree : Agree site board 
       simp (front-at 0 (omega arith), front-at 1 (omega arith), front-at 2 (omega arith), front-at 3 (omega arith))
       (u32-back (p .edition) (omega (arith, agree .fits)))
 
-  -- in no entry is the same as a byte 0, and having an entry as a byte of one's own
+  -- in no entry is the same as a byte 0, in one of a tug's as a tug's byte, and having an entry as a byte of one's own
   same-free : free site board ≡ plainFree site (p .entries)
-  unfolding plainFree
-  same-free = fun-ext (λ c. fun-ext (λ t. same-test _ _
-      (λ e.
-      let (hc, ht, byte) = tells-free site board c t .then e in
-      let none : not (taken (p .entries) c t) ≡ true = sym (free-holder site (p .entries) c t (agree .clean)) ∙ eq-eqb _ 0 (sym (agree .same-bytes c t hc ht) ∙ byte) in
-      every-cons _ _ (lt-ltb c (site .cells) hc) (every-cons _ _ (le-leb t (site .horizon) ht) (every-cons _ _ none every-nil)))
-      (λ e.
-      let hc = ltb-true c (site .cells) (every-at _ e 0) in
-      let ht = leb-true t (site .horizon) (every-at _ e 1) in
-      let byte = agree .same-bytes c t hc ht ∙ eqb-true _ 0 (free-holder site (p .entries) c t (agree .clean) ∙ every-at _ e 2) in
-      tells-free site board c t .back (hc, ht, byte))))
+  unfolding free plainFree every
+  same-free = fun-ext (λ c. fun-ext (λ t.
+      decide (ltb c (site .cells))
+      (λ hc. decide (leb t (site .horizon))
+      (λ ht. simp (hc, ht) (ap (λ (b : Bool). b && true) (clear-same site _ _ t (λ x le.
+      ap (λ (b : ℕ). not (eqb b 0)) (agree .same-bytes c x (ltb-true _ _ hc) le)
+      ∙ ap not (free-holder site (p .entries) c x (agree .clean)) ∙ not-not (taken (p .entries) c x)))))
+      (λ ht. simp (hc, ht)))
+      (λ hc. simp hc)))
+
+  same-closable : closable site board ≡ plainClosable site (p .entries)
+  unfolding closable plainClosable every
+  same-closable = fun-ext (λ c. fun-ext (λ t.
+      decide (ltb c (site .cells))
+      (λ hc. decide (leb t (site .horizon))
+      (λ ht. simp (hc, ht) (ap₂ (λ (x y : Bool). x && (y && true))
+      (ap (λ (b : ℕ). eqb b 0) (agree .same-bytes c t (ltb-true _ _ hc) (leb-true _ _ ht)) ∙ free-holder site (p .entries) c t (agree .clean))
+      (clear-same site _ _ t (λ x le.
+      ap isTug (agree .same-bytes c x (ltb-true _ _ hc) le) ∙ tug-holder site (p .entries) c x (agree .clean)))))
+      (λ ht. simp (hc, ht)))
+      (λ hc. simp hc)))
 
   same-stands : stands board ≡ hasEntry (p .entries)
   same-stands = fun-ext (λ h. same-test _ _
@@ -165,7 +250,7 @@ module _ (site : Site) (board : List ℕ) (p : Plain) (agree : Agree site board 
   -- so the refusals read the same of both
   pub same-view : bytesView site board ≡ plainView site p
   unfolding bytesView plainView
-  same-view = λ i. record { edition = same-edition i; stands = same-stands i; free = same-free i }
+  same-view = λ i. record { edition = same-edition i; stands = same-stands i; free = same-free i; closable = same-closable i }
 
 -- ---- the board's bytes are those of the plain board
 
@@ -238,14 +323,37 @@ module _ (site : Site) (es : List Entry) where
   unfolding plainFree
   free-in ps h = in-site site (plainFree site es) (λ c t e. every-cons _ _ (every-at _ e 0) (every-cons _ _ (every-at _ e 1) every-nil)) ps h
 
-  free-apart : (ps : List Pair) → allFree (plainFree site es) ps ≡ true → (c t : ℕ) → hasPair ps c t ≡ true → taken es c t ≡ false
+  -- a free pair is near no entry's
+  free-near : (c t u k : ℕ) → Clean site es → plainFree site es c t ≡ true → Has es k c u → Within site t u → ⊥
   unfolding plainFree
-  free-apart [] h c t e = absurd (true≢false (sym e ∙ any-nil (λ (p : Pair). every (eqb (p .cell) c ∷ eqb (p .tick) t ∷ []))))
-  free-apart (q ∷ ps) h c t e =
-      let this : plainFree site es (q .cell) (q .tick) ≡ true = all-head (λ (x : Pair). plainFree site es (x .cell) (x .tick)) q ps h in
-      any-case (λ (p : Pair). every (eqb (p .cell) c ∷ eqb (p .tick) t ∷ [])) q ps e
-      (λ s. sym (ap₂ (taken es) (eqb-true _ _ (every-at _ s 0)) (eqb-true _ _ (every-at _ s 1))) ∙ not-true _ (every-at _ this 2))
-      (λ s k. free-apart ps (all-tail (λ (x : Pair). plainFree site es (x .cell) (x .tick)) q ps h) c t k)
+  free-near c t u k clean h has near =
+      true≢false (sym (has-taken es k c u has) ∙ clear-at site (taken es c) t u (every-at _ h 2) (has-in site es k c u clean has .1) near)
+
+  free-untaken : (c t : ℕ) → plainFree site es c t ≡ true → taken es c t ≡ false
+  unfolding plainFree
+  free-untaken c t h = clear-at site (taken es c) t t (every-at _ h 2) (leb-true _ _ (every-at _ h 1)) (omega arith, omega arith)
+
+  -- a closable one is in no entry and near no tug's
+  close-near : (c t u k : ℕ) → Clean site es → plainClosable site es c t ≡ true → Has es k c u → isTug k ≡ true → Within site t u → ⊥
+  unfolding plainClosable
+  close-near c t u k clean h has tug near =
+      true≢false (sym (has-tug es k c u tug has) ∙ clear-at site (tugTaken es c) t u (every-at _ h 3) (has-in site es k c u clean has .1) near)
+
+  close-untaken : (c t : ℕ) → plainClosable site es c t ≡ true → taken es c t ≡ false
+  unfolding plainClosable
+  close-untaken c t h = not-true _ (every-at _ h 2)
+
+  close-in : (ps : List Pair) → allFree (plainClosable site es) ps ≡ true → InSite site ps
+  unfolding plainClosable
+  close-in ps h = in-site site (plainClosable site es) (λ c t e. every-cons _ _ (every-at _ e 0) (every-cons _ _ (every-at _ e 1) every-nil)) ps h
+
+-- a pair of a list that is free in some sense
+pub free-pair : (f : Free) (ps : List Pair) (c t : ℕ) → allFree f ps ≡ true → hasPair ps c t ≡ true → f c t ≡ true
+free-pair f [] c t h e = absurd (true≢false (sym e ∙ any-nil (λ (p : Pair). every (eqb (p .cell) c ∷ eqb (p .tick) t ∷ []))))
+free-pair f (q ∷ ps) c t h e =
+    any-case (λ (p : Pair). every (eqb (p .cell) c ∷ eqb (p .tick) t ∷ [])) q ps e
+    (λ s. sym (ap₂ f (eqb-true _ _ (every-at _ s 0)) (eqb-true _ _ (every-at _ s 1))) ∙ all-head (λ (x : Pair). f (x .cell) (x .tick)) q ps h)
+    (λ s k. free-pair f ps c t (all-tail (λ (x : Pair). f (x .cell) (x .tick)) q ps h) k)
 
 -- a board with the next edition, given its length and bytes
 module _ (site : Site) (board : List ℕ) (p : Plain) (agree : Agree site board p) (early : edition board ≡ lastEdition → ⊥) (new : List ℕ) (es : List Entry) where
@@ -267,11 +375,12 @@ module _ (site : Site) (board : List ℕ) (p : Plain) (agree : Agree site board 
       }
 
 module _ (site : Site) (board : List ℕ) (p : Plain) (agree : Agree site board p) (early : edition board ≡ lastEdition → ⊥) where
-  pub entered : (h : ℕ) → isHolder h ≡ true → (q : Pair) (ps : List Pair) → allFree (plainFree site (p .entries)) (q ∷ ps) ≡ true
+  entered : (h : ℕ) → isHolder h ≡ true → (q : Pair) (ps : List Pair) → InSite site (q ∷ ps)
+      → ((c t : ℕ) → hasPair (q ∷ ps) c t ≡ true → taken (p .entries) c t ≡ false)
+      → ((k c t u : ℕ) → hasPair (q ∷ ps) c t ≡ true → Has (p .entries) k c u → (isTug h ≡ true) ⊎ (isTug k ≡ true) → Within site t u → ⊥)
       → Agree site (nextEdition board (mark site h (q ∷ ps) board)) (withEntry p h (q ∷ ps))
-  entered h known q ps ok =
+  entered h known q ps inside apart spaced =
       let marked : List ℕ = mark site h (q ∷ ps) board in
-      let inside : InSite site (q ∷ ps) = free-in site (p .entries) (q ∷ ps) ok in
       let first-in : every (ltb (q .cell) (site .cells) ∷ leb (q .tick) (site .horizon) ∷ []) ≡ true =
       all-head (λ (x : Pair). every (ltb (x .cell) (site .cells) ∷ leb (x .tick) (site .horizon) ∷ [])) q ps inside in
       let entry : Entered site (record { holder = h; pairs = q ∷ ps }) (p .entries) = record {
@@ -282,7 +391,9 @@ module _ (site : Site) (board : List ℕ) (p : Plain) (agree : Agree site board 
         tick-in = leb-true _ _ (every-at _ first-in 1);
         has = any-here (λ (x : Pair). every (eqb (x .cell) (q .cell) ∷ eqb (x .tick) (q .tick) ∷ [])) q ps
             (every-cons _ _ (eq-eqb (q .cell) (q .cell) refl) (every-cons _ _ (eq-eqb (q .tick) (q .tick) refl) every-nil));
-        apart = free-apart site (p .entries) (q ∷ ps) ok;
+        inside = inside;
+        apart = apart;
+        spaced = spaced;
       } in
       stepped site board p agree early marked (record { holder = h; pairs = q ∷ ps } ∷ p .entries)
       (length-mark site h (q ∷ ps) board)
@@ -290,6 +401,25 @@ module _ (site : Site) (board : List ℕ) (p : Plain) (agree : Agree site board 
       byte-mark site h (q ∷ ps) board c t inside (agree .sized) hc ht
       ∙ ap (λ (n : ℕ). cond (hasPair (q ∷ ps) c t) h n) (agree .same-bytes c t hc ht))
       (entry, agree .clean)
+
+  -- a tug's, of free pairs
+  pub tug-entered : (h : ℕ) → isHolder h ≡ true → (q : Pair) (ps : List Pair) → allFree (plainFree site (p .entries)) (q ∷ ps) ≡ true
+      → Agree site (nextEdition board (mark site h (q ∷ ps) board)) (withEntry p h (q ∷ ps))
+  tug-entered h known q ps ok =
+      entered h known q ps (free-in site (p .entries) (q ∷ ps) ok)
+      (λ c t e. free-untaken site (p .entries) c t (free-pair (plainFree site (p .entries)) (q ∷ ps) c t ok e))
+      (λ k c t u e has tug near. free-near site (p .entries) c t u k (agree .clean) (free-pair (plainFree site (p .entries)) (q ∷ ps) c t ok e) has near)
+
+  -- a closure's, of closable ones
+  pub closure-entered : (h : ℕ) → isHolder h ≡ true → isTug h ≡ false → (q : Pair) (ps : List Pair) → allFree (plainClosable site (p .entries)) (q ∷ ps) ≡ true
+      → Agree site (nextEdition board (mark site h (q ∷ ps) board)) (withEntry p h (q ∷ ps))
+  closure-entered h known no-tug q ps ok =
+      entered h known q ps (close-in site (p .entries) (q ∷ ps) ok)
+      (λ c t e. close-untaken site (p .entries) c t (free-pair (plainClosable site (p .entries)) (q ∷ ps) c t ok e))
+      (λ k c t u e has tug near. elim tug [
+        | inl mine ↦ true≢false (sym mine ∙ no-tug)
+        | inr its ↦ close-near site (p .entries) c t u k (agree .clean) (free-pair (plainClosable site (p .entries)) (q ∷ ps) c t ok e) has its near
+      ])
 
 -- ---- a holder's entries removed
 
@@ -304,6 +434,15 @@ module _ (site : Site) (h : ℕ) where
       let ih : taken (without h es) c t ≡ false = taken-without es c t (simp q at e) in
       decide (eqb (x .holder) h) (λ s. simp s ih) (λ s. simp (s, q) ih))
 
+  has-without : (es : List Entry) (k c t : ℕ) → Has (without h es) k c t → Has es k c t
+  has-without [] k c t s = s
+  has-without (x ∷ es) k c t s =
+      decide (eqb (x .holder) h) (λ q. there (has-without es k c t (rw q at s))) (λ q. kept (has-without es k c t) (rw q at s))
+    where
+      kept : (Has (without h es) k c t → Has es k c t) → Has (x ∷ without h es) k c t → Has (x ∷ es) k c t
+      kept back (here p) = here p
+      kept back (there r) = there (back r)
+
   clean-without : (es : List Entry) → Clean site es → Clean site (without h es)
   clean-without [] clean = tt
   clean-without (x ∷ es) (e, clean) =
@@ -317,7 +456,9 @@ module _ (site : Site) (h : ℕ) where
           cell-in = e .cell-in;
           tick-in = e .tick-in;
           has = e .has;
+          inside = e .inside;
           apart = λ c t q. taken-without es c t (e .apart c t q);
+          spaced = λ k c t u q has tug near. e .spaced k c t u q (has-without es k c u has) tug near;
         },
         clean-without es clean,
       ))

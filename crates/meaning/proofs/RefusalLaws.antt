@@ -3,26 +3,26 @@
 use Prim.Native.Nat.{ℕ, suc, _+_, _*_, _-_, _≤_, _<_}
 use native.Mathlib.Omega.{arith}
 use mathlib.Core.Path.{_≡_, refl, sym, ap, ap₂, _∙_}
-use mathlib.Core.Bool.{true, false, not, false≢true, true≢false}
+use mathlib.Core.Bool.{Bool, true, false, not, false≢true, true≢false}
 use mathlib.Core.Option.{some}
 use mathlib.Core.List.{List, [], _∷_}
 use lib.Dec.{leb, eqb}
 use borrow.Author.Tests.{eqb-true, eq-eqb, not-false}
 use lib.ListN.{length, getD}
-use Rattle.meaning.specs.Basics.{every, all, Each, Some, Bytes, isNone}
+use Rattle.meaning.specs.Basics.{every, all, Each, Some, here, there, Bytes, isNone}
 use Rattle.meaning.specs.Site.{Site, stateAt}
-use Rattle.meaning.specs.Board.{Free, boardLength, Pair, runTo, allFree}
+use Rattle.meaning.specs.Board.{isTug, Free, boardLength, Pair, runTo, allFree}
 use Rattle.meaning.specs.Plan.{Step, wait, move, Node, planEnd}
 use Rattle.meaning.specs.Reach.{findRoute}
 use Rattle.meaning.specs.Light.{Light, startOf, goalOf, lightOf, isLight, decode}
 use Rattle.meaning.specs.Calls.{Call, route, audit, post, close, withdraw, PublicCall, opening, interval, listed, View, bytesView, Room, tripNamed, runNamed, stepNamed, lightNamed, isAt, lightRoom, wordsNeeded, lightValid, routeRefusals, lightRefusals, closeRefusals, withdrawRefusals, callRefusals, intervalRefusals, Lent, roomOf, laterRefusals, lightPairs}
-use Rattle.meaning.specs.PlainBoard.{Entry, Plain, hasPair, taken, plainFree, hasEntry, plainView}
+use Rattle.meaning.specs.PlainBoard.{Entry, Plain, hasPair, taken, tugTaken, plainFree, plainClosable, hasEntry, plainView}
 use Rattle.meaning.specs.ValidPlans.{ValidPlan}
 use Rattle.meaning.specs.WellFormed.{WellFormed}
-use Rattle.meaning.specs.Refusals.{_says_, Says, Not, StepKnown, Sight, bytesSight, HasEntry, InEntry, InNone, plainSight, TripKnown, RunKnown, LightKnown, LightBytes, RouteRoom, callPaper, lightPaper, publicPaper, LightGiven, GivenBytes, CloseAccepted, LightAccepted, WithdrawAccepted, RouteAccepted, CallAccepted, PlainRight}
-use Rattle.meaning.proofs.BasicsLaws.{every-at, every-nil, every-cons, options, any-at, some-any, any-some, all-at, all-each, each-all, allFrom-in, allFrom-true}
-use Rattle.meaning.proofs.SentenceLaws.{Tells, tells-not, misses, holds, fails, told, tells-le, tells-lt, tells-eq, tells-two, tells-three, tells-four}
-use Rattle.meaning.proofs.BytesLaws.{tells-tug, tells-closure, tells-holder, tells-free, tells-stands}
+use Rattle.meaning.specs.Refusals.{_says_, Says, Not, Tug, StepKnown, Sight, bytesSight, HasEntry, InEntry, plainSight, FreeFor, MayClose, TripKnown, RunKnown, LightKnown, LightBytes, RouteRoom, callPaper, lightPaper, publicPaper, LightGiven, GivenBytes, CloseAccepted, LightAccepted, WithdrawAccepted, RouteAccepted, CallAccepted, PlainRight}
+use Rattle.meaning.proofs.BasicsLaws.{every-at, every-nil, every-cons, options, any-nil, any-here, any-there, any-case, any-at, some-any, any-some, all-at, all-each, each-all, allFrom-in, allFrom-true}
+use Rattle.meaning.proofs.SentenceLaws.{Tells, tells-as, tells-not, misses, holds, fails, told, tells-le, tells-lt, tells-eq, tells-two, tells-three, tells-four}
+use Rattle.meaning.proofs.BytesLaws.{tells-tug, tells-closure, tells-holder, tells-clear, tells-free-for, tells-closable, tells-stands}
 use Rattle.meaning.proofs.LightLaws.{lights-right, decode-some, light-decode}
 use Rattle.meaning.proofs.PlanLaws.{plan-valid, valid-plan, can-unload, unload-can, held-pairs, run-free}
 use Rattle.meaning.proofs.TraceLaws.{search-right}
@@ -114,19 +114,21 @@ tells-is-light light bytes = record {
 -- ---- what calls see, as tests and in words
 
 -- the tests of a view say what the words of a sight say
-pub record Sees (v : View) (s : Sight) : Type 0 where
+pub record Sees (site : Site) (v : View) (s : Sight) : Type 0 where
   pub same-edition : v .edition ≡ s .edition
   pub same-free : v .free ≡ s .free
   pub standing : (h : ℕ) → Tells (v .stands h) (s .Standing h)
-  pub unheld : (c t : ℕ) → Tells (s .free c t) (s .Unheld c t)
+  pub free-for : (c t : ℕ) → Tells (s .free c t) (FreeFor site s c t)
+  pub may-close : (c t : ℕ) → Tells (v .closable c t) (MayClose site s c t)
 
-pub bytes-seen : (site : Site) (board : List ℕ) → length board ≡ boardLength site → Sees (bytesView site board) (bytesSight site board)
+pub bytes-seen : (site : Site) (board : List ℕ) → length board ≡ boardLength site → Sees site (bytesView site board) (bytesSight site board)
 unfolding bytesView
 bytes-seen site board size = record {
   same-edition = refl;
   same-free = refl;
   standing = tells-stands site board size;
-  unheld = tells-free site board;
+  free-for = tells-free-for site board;
+  may-close = tells-closable site board;
 }
 
 tells-pair : (ps : List Pair) (c t : ℕ) → Tells (hasPair ps c t) (Some (λ (p : Pair). (p .cell ≡ c) × (p .tick ≡ t)) ps)
@@ -135,11 +137,38 @@ tells-pair ps c t = record {
   back = some-any (λ (p : Pair). (p .cell ≡ c) × (p .tick ≡ t)) (λ (p : Pair). every (eqb (p .cell) c ∷ eqb (p .tick) t ∷ [])) (λ p. tells-two (tells-eq (p .cell) c) (tells-eq (p .tick) t) .back);
 }
 
-tells-taken : (es : List Entry) (c t : ℕ) → Tells (taken es c t) (InEntry es c t)
-tells-taken es c t = record {
-  then = any-some (λ (e : Entry). Some (λ (p : Pair). (p .cell ≡ c) × (p .tick ≡ t)) (e .pairs)) (λ (e : Entry). hasPair (e .pairs) c t) (λ e. tells-pair (e .pairs) c t .then) es;
-  back = some-any (λ (e : Entry). Some (λ (p : Pair). (p .cell ≡ c) × (p .tick ≡ t)) (e .pairs)) (λ (e : Entry). hasPair (e .pairs) c t) (λ e. tells-pair (e .pairs) c t .back);
-}
+-- a pair is in an entry exactly if somebody holds it, and in one of a tug's if a tug does
+taken-by : (es : List Entry) (c t : ℕ) → taken es c t ≡ true → (h : ℕ) × InEntry es h c t
+taken-by [] c t e = absurd (true≢false (sym e ∙ any-nil (λ (x : Entry). hasPair (x .pairs) c t)))
+taken-by (x ∷ es) c t e =
+    any-case (λ (y : Entry). hasPair (y .pairs) c t) x es e
+    (λ q. (x .holder, here (refl, tells-pair (x .pairs) c t .then q)))
+    (λ q k. let (h, held) = taken-by es c t k in (h, there held))
+
+by-taken : (es : List Entry) (h c t : ℕ) → InEntry es h c t → taken es c t ≡ true
+by-taken (x ∷ es) h c t (here (same, q)) = any-here (λ (y : Entry). hasPair (y .pairs) c t) x es (tells-pair (x .pairs) c t .back q)
+by-taken (x ∷ es) h c t (there s) = any-there (λ (y : Entry). hasPair (y .pairs) c t) x es (by-taken es h c t s)
+
+tells-taken : (es : List Entry) (c t : ℕ) → Tells (taken es c t) ((h : ℕ) × InEntry es h c t)
+tells-taken es c t = record { then = taken-by es c t; back = λ (h, held). by-taken es h c t held }
+
+abbrev ofTug : ℕ → ℕ → Entry → Bool
+ofTug c t e = every (isTug (e .holder) ∷ hasPair (e .pairs) c t ∷ [])
+
+taken-by-tug : (es : List Entry) (c t : ℕ) → tugTaken es c t ≡ true → (h : ℕ) × Tug h × InEntry es h c t
+taken-by-tug [] c t e = absurd (true≢false (sym e ∙ any-nil (ofTug c t)))
+taken-by-tug (x ∷ es) c t e =
+    any-case (ofTug c t) x es e
+    (λ q. (x .holder, tells-tug (x .holder) .then (every-at _ q 0), here (refl, tells-pair (x .pairs) c t .then (every-at _ q 1))))
+    (λ q k. let (h, tug, held) = taken-by-tug es c t k in (h, tug, there held))
+
+by-tug-taken : (es : List Entry) (h c t : ℕ) → Tug h → InEntry es h c t → tugTaken es c t ≡ true
+by-tug-taken (x ∷ es) h c t tug (here (same, q)) =
+    any-here (ofTug c t) x es (every-cons _ _ (ap isTug same ∙ tells-tug h .back tug) (every-cons _ _ (tells-pair (x .pairs) c t .back q) every-nil))
+by-tug-taken (x ∷ es) h c t tug (there s) = any-there (ofTug c t) x es (by-tug-taken es h c t tug s)
+
+tells-tug-taken : (es : List Entry) (c t : ℕ) → Tells (tugTaken es c t) ((h : ℕ) × Tug h × InEntry es h c t)
+tells-tug-taken es c t = record { then = taken-by-tug es c t; back = λ (h, tug, held). by-tug-taken es h c t tug held }
 
 tells-entry : (es : List Entry) (h : ℕ) → Tells (hasEntry es h) (HasEntry es h)
 tells-entry es h = record {
@@ -147,22 +176,39 @@ tells-entry es h = record {
   back = some-any (λ (e : Entry). e .holder ≡ h) (λ (e : Entry). eqb (e .holder) h) (λ e. tells-eq (e .holder) h .back);
 }
 
-tells-plain-free : (site : Site) (es : List Entry) (c t : ℕ) → Tells (plainFree site es c t) (InNone site es c t)
+tells-plain-free : (site : Site) (p : Plain) (c t : ℕ) → Tells (plainFree site (p .entries) c t) (FreeFor site (plainSight site p) c t)
 unfolding plainFree
-tells-plain-free site es c t = tells-three (tells-lt c (site .cells)) (tells-le t (site .horizon)) (tells-not (tells-taken es c t))
+tells-plain-free site p c t =
+    let es : List Entry = p .entries in
+    tells-as
+    (tells-three (tells-lt c (site .cells)) (tells-le t (site .horizon))
+    (tells-clear site (taken es c) (λ (x : ℕ). (h : ℕ) × InEntry es h c x) (tells-taken es c) t))
+    (λ (hc, ht, none). (hc, ht, λ h x le near held. none x le near (h, held)))
+    (λ (hc, ht, none). (hc, ht, λ x le near (h, held). none h x le near held))
 
-pub plain-seen : (site : Site) (p : Plain) → Sees (plainView site p) (plainSight site p)
+tells-plain-closable : (site : Site) (p : Plain) (c t : ℕ) → Tells (plainClosable site (p .entries) c t) (MayClose site (plainSight site p) c t)
+unfolding plainClosable
+tells-plain-closable site p c t =
+    let es : List Entry = p .entries in
+    tells-as
+    (tells-four (tells-lt c (site .cells)) (tells-le t (site .horizon)) (tells-not (tells-taken es c t))
+    (tells-clear site (tugTaken es c) (λ (x : ℕ). (h : ℕ) × Tug h × InEntry es h c x) (tells-tug-taken es c) t))
+    (λ (hc, ht, none, no-tug). ((hc, ht, λ h held. none (h, held)), λ h x le near tug held. no-tug x le near (h, tug, held)))
+    (λ ((hc, ht, none), no-tug). (hc, ht, (λ (h, held). none h held), λ x le near (h, tug, held). no-tug h x le near tug held))
+
+pub plain-seen : (site : Site) (p : Plain) → Sees site (plainView site p) (plainSight site p)
 unfolding plainView
 plain-seen site p = record {
   same-edition = refl;
   same-free = refl;
   standing = tells-entry (p .entries);
-  unheld = tells-plain-free site (p .entries);
+  free-for = tells-plain-free site p;
+  may-close = tells-plain-closable site p;
 }
 
 -- ---- the lists
 
-module _ (site : Site) (well : WellFormed site) (v : View) (s : Sight) (sees : Sees v s) where
+module _ (site : Site) (well : WellFormed site) (v : View) (s : Sight) (sees : Sees site v s) where
   tells-edition : Tells (eqb (v .edition) 4294967295) (s .edition ≡ 4294967295)
   tells-edition = rw (sees .same-edition) (tells-eq (s .edition) 4294967295)
 
@@ -177,8 +223,8 @@ module _ (site : Site) (well : WellFormed site) (v : View) (s : Sight) (sees : S
       ((ps : List Step) (t : ℕ) → Not (ValidPlan site (s .free) a ps (record { state = goal; tick = t }) dwell))
   tells-no-route a goal dwell = rw (sees .same-free) (tells-none site well (s .free) a goal dwell)
 
-  tells-open : (cell first last : ℕ) → Tells (allFree (v .free) (runTo cell first last)) ((t : ℕ) → first ≤ t → t ≤ last → s .Unheld cell t)
-  tells-open cell first last = rw (sees .same-free) (tells-run-free site (s .free) (s .Unheld) (sees .unheld) cell first last)
+  tells-open : (cell first last : ℕ) → Tells (allFree (v .closable) (runTo cell first last)) ((t : ℕ) → first ≤ t → t ≤ last → MayClose site s cell t)
+  tells-open cell first last = tells-run-free site (v .closable) (MayClose site s) (sees .may-close) cell first last
 
   tells-room : (room : Room) → Tells (every (leb (lightRoom site) (room .out) ∷ leb (wordsNeeded site) (room .words) ∷ [])) (RouteRoom site room)
   tells-room room = tells-two (tells-le (18 + 5 * site .horizon) (room .out)) (tells-le (length (site .states) * (site .horizon + 1)) (room .words))
@@ -269,7 +315,7 @@ module _ (site : Site) (well : WellFormed site) (v : View) (s : Sight) (sees : S
     known = holds (tells-run site cell first last) h10;
     new = misses (sees .standing h) h12;
     below = below most h15;
-    unheld = holds (tells-open cell first last) h17;
+    may-close = holds (tells-open cell first last) h17;
   }
 
   accepted-close : (h cell first last : ℕ) → CloseAccepted site s h cell first last → Each Passed (closeRefusals site v h cell first last)
@@ -282,7 +328,7 @@ module _ (site : Site) (well : WellFormed site) (v : View) (s : Sight) (sees : S
         fails (sees .standing h) (a .new),
         (
           not-last (a .below),
-          (ap not (tells-open cell first last .back (a .unheld)), tt),
+          (ap not (tells-open cell first last .back (a .may-close)), tt),
         ),
       ),
     ),
@@ -321,7 +367,7 @@ module _ (site : Site) (well : WellFormed site) (v : View) (s : Sight) (sees : S
         goal-stands = holds (tells-stand (x .goal)) h11;
         new = misses (sees .standing (x .tug)) h12;
         below = below most h15;
-        unheld = λ c t held. sees .unheld c t .then (pair-free (s .free) (lightPairs site x) c t all-free (held-pairs site (startOf x) (x .steps) (goalOf x) (x .dwell) c t held));
+        free-pairs = λ c t held. sees .free-for c t .then (pair-free (s .free) (lightPairs site x) c t all-free (held-pairs site (startOf x) (x .steps) (goalOf x) (x .dwell) c t held));
         valid = holds (tells-plan x) h17;
       }
 
@@ -424,8 +470,10 @@ later-says site well l size (listed c) given =
 pub plain-right : PlainRight
 plain-right = record {
   say = λ site well p room c given. call-says site well (plainView site p) (plainSight site p) (plain-seen site p) room c given;
-  free-pairs = λ site es c t. tells-plain-free site es c t .then;
-  all-free-pairs = λ site es c t. tells-plain-free site es c t .back;
+  free-pairs = λ site p c t. tells-plain-free site p c t .then;
+  all-free-pairs = λ site p c t. tells-plain-free site p c t .back;
+  closable-pairs = λ site p c t. tells-plain-closable site p c t .then;
+  all-closable-pairs = λ site p c t. tells-plain-closable site p c t .back;
   accepts = λ site well p most room c given e.
       call-accepted site well (plainView site p) (plainSight site p) (plain-seen site p) most room c given
       (rise-none 7 (callRefusals site (plainView site p) room c) (call-rise site (plainView site p) room c) e);

@@ -16,6 +16,10 @@ pub record Tells (b : Bool) (P : Type 0) : Type 0 where
   pub then : b ≡ true → P
   pub back : P → b ≡ true
 
+-- the same sentence in other words
+pub tells-as : {b : Bool} {P Q : Type 0} → Tells b P → (P → Q) → (Q → P) → Tells b Q
+tells-as e to from = record { then = λ h. to (e .then h); back = λ q. e .back (from q) }
+
 -- its negation
 pub tells-not : {b : Bool} {P : Type 0} → Tells b P → Tells (not b) (Not P)
 tells-not {b} e = record {

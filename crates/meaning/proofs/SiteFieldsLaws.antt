@@ -8,7 +8,7 @@ use mathlib.Core.List.{List, [], _∷_, _++_, map}
 use lib.ListN.{length, getD, take, drop, length-drop}
 use lib.Dec.{leb, eqb}
 use borrow.Author.Tests.{leb-true, le-leb, eqb-true, eq-eqb}
-use Rattle.meaning.specs.Limits.{horizonLimit, cellLimit, stateLimit, motionLimit, sweepLimit}
+use Rattle.meaning.specs.Limits.{horizonLimit, cellLimit, stateLimit, marginLimit, motionLimit, sweepLimit}
 use Rattle.meaning.specs.Limits.{headTag, stateTag, motionTag, headSize, stateSize, motionSize, sweepSize}
 use Rattle.meaning.specs.Basics.{all, within, Each, Bytes, u16At}
 use Rattle.meaning.specs.Fields.{Field, noField}
@@ -214,13 +214,16 @@ head-good f h =
     let c = within 1 horizonLimit (u16At v 0) in
     let d = within 1 cellLimit (getD v 2 0) in
     let e = within 1 stateLimit (u16At v 3) in
-    let (x, y, z) = and-three a b c (and-left (a && b && c) d (and-left (a && b && c && d) e h)) in
+    let g = leb (getD v 5 0) marginLimit in
+    let k = and-left (a && b && c && d && e) g h in
+    let (x, y, z) = and-three a b c (and-left (a && b && c) d (and-left (a && b && c && d) e k)) in
     record {
       tag-right = eqb-true (f .tag) headTag x;
       size-right = eqb-true (length v) headSize y;
       horizon-range = within-range 1 horizonLimit (u16At v 0) z;
-      cells-range = within-range 1 cellLimit (getD v 2 0) (and-right (a && b && c) d (and-left (a && b && c && d) e h));
-      states-range = within-range 1 stateLimit (u16At v 3) (and-right (a && b && c && d) e h);
+      cells-range = within-range 1 cellLimit (getD v 2 0) (and-right (a && b && c) d (and-left (a && b && c && d) e k));
+      states-range = within-range 1 stateLimit (u16At v 3) (and-right (a && b && c && d) e k);
+      margin-range = leb-true _ _ (and-right (a && b && c && d && e) g h);
     }
 
 pub good-head : (f : Field) → HeadField f → headGood f ≡ true
@@ -233,16 +236,17 @@ good-head f h =
       range-within 1 horizonLimit (u16At v 0) (h .horizon-range .0) (h .horizon-range .1),
       range-within 1 cellLimit (getD v 2 0) (h .cells-range .0) (h .cells-range .1),
       range-within 1 stateLimit (u16At v 3) (h .states-range .0) (h .states-range .1),
+      le-leb (getD v 5 0) marginLimit (h .margin-range),
     )
 
 pub head-written : (f : Field) (site : Site) → HeadField f → Bytes (f .value)
-    → site .horizon ≡ u16At (f .value) 0 → site .cells ≡ getD (f .value) 2 0 → length (site .states) ≡ u16At (f .value) 3
+    → site .horizon ≡ u16At (f .value) 0 → site .cells ≡ getD (f .value) 2 0 → site .margin ≡ getD (f .value) 5 0 → length (site .states) ≡ u16At (f .value) 3
     → headField site ≡ f
-head-written f site h bytes horizon cells states =
+head-written f site h bytes horizon cells margin states =
     let v = f .value in
     let (a, b) = two-bytes v bytes 0 in
     let (c, d) = two-bytes v bytes 3 in
-    field-is f _ _ (h .tag-right) (rw (horizon, cells, states, a, b, c, d) (list-of v headSize (h .size-right)))
+    field-is f _ _ (h .tag-right) (rw (horizon, cells, margin, states, a, b, c, d) (list-of v headSize (h .size-right)))
 
 pub head-made : (site : Site) → WellFormed site → HeadField (headField site)
 head-made site well =
@@ -254,6 +258,7 @@ head-made site well =
       horizon-range = rw horizon (well .horizon-range);
       cells-range = well .cells-range;
       states-range = rw states (well .states-range);
+      margin-range = well .margin-range;
     }
 
 -- a good head is there, so it and the fields after it are all fields

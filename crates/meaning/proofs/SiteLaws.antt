@@ -101,6 +101,7 @@ passes-well file p =
     record {
       horizon-range = h .horizon-range;
       cells-range = h .cells-range;
+      margin-range = h .margin-range;
       states-range = rw count (h .states-range);
       motions-range = rw (length-map ms motionOf) few;
       state-cells = all-each (CellKnown site) (cellGood (site .cells)) (λ s. ltb-true (s .cell) (site .cells)) (site .states) (p .cells);
@@ -125,7 +126,7 @@ passes-fields file p = head-first (listed (fields file)) (head-good (headOf file
 
 passes-head : (file : List ℕ) → Passes file → Bytes (headOf file .value) → headField (siteOf file) ≡ headOf file
 unfolding siteOf stateCount
-passes-head file p bytes = head-written (headOf file) (siteOf file) (head-good (headOf file) (p .head)) bytes refl refl (state-number file (p .layout))
+passes-head file p bytes = head-written (headOf file) (siteOf file) (head-good (headOf file) (p .head)) bytes refl refl refl (state-number file (p .layout))
 
 passes-states : (file : List ℕ) → Passes file → map stateField (siteOf file .states) ≡ take (stateCount file) (laterOf file)
 unfolding siteOf
@@ -227,7 +228,8 @@ module _ (file : List ℕ) (site : Site) (fit : Writable site) (same : listed (f
   file-site =
       let horizon : u16At (headOf file .value) 0 ≡ site .horizon = rw file-head (u16-back (site .horizon) (fit .horizon-fits)) in
       let cells : getD (headOf file .value) 2 0 ≡ site .cells = rw file-head in
-      λ i. record { horizon = horizon i; cells = cells i; states = file-states i; motions = file-motions i }
+      let margin : getD (headOf file .value) 5 0 ≡ site .margin = rw file-head in
+      λ i. record { horizon = horizon i; cells = cells i; margin = margin i; states = file-states i; motions = file-motions i }
 
 -- the file of any site is read as that site, refused or not
 pub written-read : (site : Site) → Writable site → siteOf (fileOf site) ≡ site

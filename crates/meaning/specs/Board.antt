@@ -1,12 +1,12 @@
 -- The board: who holds which cell at which tick, as bytes ('Board' of docs/FORMATS.md).
 -- Assumes nothing.
 use Prim.Native.Nat.{ℕ, zero, suc, _+_, _*_, _-_}
-use mathlib.Core.Bool.{Bool, true, false, cond}
+use mathlib.Core.Bool.{Bool, true, false, cond, not}
 use mathlib.Core.List.{List, [], _∷_, _++_, map}
 use lib.Dec.{leb, ltb, eqb}
 use lib.ListN.{getD, take, drop, set}
 use Rattle.meaning.specs.Limits.{lastTug, lastClosure, header}
-use Rattle.meaning.specs.Basics.{every, any, all, u32At, put32}
+use Rattle.meaning.specs.Basics.{every, any, all, allFrom, u32At, put32}
 use Rattle.meaning.specs.Site.{Site}
 
 -- ---- how a byte sorts
@@ -69,9 +69,28 @@ edition board = u32At board 0
 abbrev pub Free : Type 0
 Free = ℕ → ℕ → Bool
 
--- a cell of the site, a tick up to the horizon, and nobody holds it
+-- no tick from the first to the last, both included and up to the horizon, is bad
+unfoldable pub clearFromTo : Site → (ℕ → Bool) → ℕ → ℕ → Bool
+clearFromTo site bad first last = allFrom (λ (x : ℕ). not (every (leb x (site .horizon) ∷ bad x ∷ []))) first (suc last - first)
+
+-- none from m ticks earlier to m later is, m the margin
+unfoldable pub clearAround : Site → (ℕ → Bool) → ℕ → Bool
+clearAround site bad t = clearFromTo site bad (t - site .margin) (t + site .margin)
+
+-- a cell of the site, a tick up to the horizon, and nobody holds it there or within the margin
 unfoldable pub free : Site → List ℕ → Free
-free site board c t = every (ltb c (site .cells) ∷ leb t (site .horizon) ∷ eqb (byteAt site board c t) 0 ∷ [])
+free site board c t =
+    every (ltb c (site .cells) ∷ leb t (site .horizon) ∷ clearAround site (λ (x : ℕ). not (eqb (byteAt site board c x) 0)) t ∷ [])
+
+-- what a closure may take: nobody holds it, and no tug holds it within the margin; closures may touch each other
+unfoldable pub closable : Site → List ℕ → Free
+closable site board c t =
+    every (
+    ltb c (site .cells)
+    ∷ leb t (site .horizon)
+    ∷ eqb (byteAt site board c t) 0
+    ∷ clearAround site (λ (x : ℕ). isTug (byteAt site board c x)) t
+    ∷ [])
 
 -- a holder stands if some byte carries its number; the edition's bytes are no cell's
 unfoldable pub stands : List ℕ → ℕ → Bool

@@ -10,7 +10,7 @@ use Rattle.meaning.specs.Limits.{dwellLimit, lastDistance, lastEdition, 
 use Rattle.meaning.specs.Basics.{every, all, isNone}
 use Rattle.meaning.specs.Answers.{Refusal, _if_, lowest}
 use Rattle.meaning.specs.Site.{Site, standing, siteOf, siteRefusals}
-use Rattle.meaning.specs.Board.{Free, free, stands, isTug, isClosure, isHolder, boardLength, edition, Pair, runTo, allFree, mark, clear, nextEdition}
+use Rattle.meaning.specs.Board.{Free, free, closable, stands, isTug, isClosure, isHolder, boardLength, edition, Pair, runTo, allFree, mark, clear, nextEdition}
 use Rattle.meaning.specs.Plan.{Step, wait, move, Node, planEnd, canUnload, planPairs}
 use Rattle.meaning.specs.Reach.{Route, findRoute}
 use Rattle.meaning.specs.Light.{Light, startOf, goalOf, encode, lightOf, isLight}
@@ -39,9 +39,10 @@ pub record View : Type 0 where
   pub edition : ℕ
   pub stands : ℕ → Bool
   pub free : Free
+  pub closable : Free
 
 unfoldable pub bytesView : Site → List ℕ → View
-bytesView site board = record { edition = edition board; stands = stands board; free = free site board }
+bytesView site board = record { edition = edition board; stands = stands board; free = free site board; closable = closable site board }
 
 -- the areas, as lengths: the output area, and the working words
 pub record Room : Type 0 where
@@ -117,7 +118,7 @@ closeRefusals site v h cell first last =
     ∷ 10 if not (runNamed site cell first last)
     ∷ 12 if v .stands h
     ∷ 15 if eqb (v .edition) lastEdition
-    ∷ 17 if not (allFree (v .free) (runTo cell first last))
+    ∷ 17 if not (allFree (v .closable) (runTo cell first last))
     ∷ []
 
 unfoldable pub withdrawRefusals : View → ℕ → List Refusal

@@ -4,6 +4,7 @@ use Prim.Native.Nat.{ℕ, _+_, _*_, _≤_, _<_}
 use mathlib.Core.Path.{_≡_}
 use mathlib.Core.Bool.{true}
 use mathlib.Core.Option.{some}
+use mathlib.Core.Logic.{_⊎_}
 use mathlib.Core.List.{List, [], _∷_, map}
 use lib.ListN.{length, getD, take, replicate}
 use Rattle.meaning.specs.Basics.{Each, Some, Bytes}
@@ -16,7 +17,7 @@ use Rattle.meaning.specs.Intervals.{Interval, numbersOf}
 use Rattle.meaning.specs.Calls.{Call, route, audit, post, close, withdraw, PublicCall, opening, interval, listed, Lent, roomOf, refusals, Done, meant}
 use Rattle.meaning.specs.PlainBoard.{Entry, Plain, emptyPlain, hasPair, Seen, plainSeen, plainAfter, bytesOf}
 use Rattle.meaning.specs.ValidPlans.{ValidPlan, Holds, Traced, mergeWaits}
-use Rattle.meaning.specs.Refusals.{bytesSight, CloseAccepted, LightAccepted, WithdrawAccepted, RouteAccepted}
+use Rattle.meaning.specs.Refusals.{Tug, bytesSight, CloseAccepted, LightAccepted, WithdrawAccepted, RouteAccepted}
 use Rattle.meaning.specs.SafeIntervals.{AllSafeIntervals}
 
 -- `desk file lent call done`: on this site file and with this lent, the call may return and leave this
@@ -188,6 +189,10 @@ pub record ListRight (file : List ℕ) (site : Site) (board : List ℕ) (xs : Li
   -- no two holders have the same cell on the same tick, and 255 is no holder
   pub no-two : (h k c t : ℕ) → Has (plainAfterAll site emptyPlain xs .entries) h c t → Has (plainAfterAll site emptyPlain xs .entries) k c t → h ≡ k
   pub known : (h c t : ℕ) → Has (plainAfterAll site emptyPlain xs .entries) h c t → (1 ≤ h) × (h ≤ 254)
+  -- of two different tugs using one cell, ticks differ by more than m; so do a tug's and a closure's
+  pub spaced : (h k c t u : ℕ) → Tug h → (h ≡ k → ⊥)
+      → Has (plainAfterAll site emptyPlain xs .entries) h c t → Has (plainAfterAll site emptyPlain xs .entries) k c u
+      → (t + site .margin < u) ⊎ (u + site .margin < t)
   -- each route call of the list
   pub routes : Each (RouteTurn file site) xs
 

@@ -24,6 +24,10 @@ motionLimit = 2000
 abbrev pub sweepLimit : ℕ
 sweepLimit = 16
 
+-- m, the ticks that a tug keeps from everybody else
+abbrev pub marginLimit : ℕ
+marginLimit = 20
+
 -- a light's bytes
 abbrev pub lightLimit : ℕ
 lightLimit = 5018
@@ -90,7 +94,7 @@ fieldHeader = 3
 
 -- the values of a site's fields; a motion's before its sweeps
 abbrev pub headSize : ℕ
-headSize = 5
+headSize = 6
 
 abbrev pub stateSize : ℕ
 stateSize = 2

@@ -9,7 +9,7 @@ use lib.ListN.{length}
 use Rattle.meaning.specs.Basics.{every, any, tabulate, put32}
 use Rattle.meaning.specs.Answers.{lowest}
 use Rattle.meaning.specs.Site.{Site}
-use Rattle.meaning.specs.Board.{Free, Pair, runTo}
+use Rattle.meaning.specs.Board.{isTug, Free, clearAround, Pair, runTo}
 use Rattle.meaning.specs.Light.{Light, encode, lightOf}
 use Rattle.meaning.specs.Calls.{Call, route, audit, post, close, withdraw, View, Room, callRefusals, grantedLight, lightPairs}
 
@@ -40,16 +40,31 @@ abbrev pub holderAt : List Entry → ℕ → ℕ → ℕ
 holderAt [] c t = 0
 holderAt (e ∷ es) c t = cond (hasPair (e .pairs) c t) (e .holder) (holderAt es c t)
 
--- free means in no entry
+-- the pair is in some entry of a tug
+abbrev pub tugTaken : List Entry → ℕ → ℕ → Bool
+tugTaken es c t = any (λ (e : Entry). every (isTug (e .holder) ∷ hasPair (e .pairs) c t ∷ [])) es
+
+-- free means in no entry, there and within the margin
 unfoldable pub plainFree : Site → List Entry → Free
-plainFree site es c t = every (ltb c (site .cells) ∷ leb t (site .horizon) ∷ not (taken es c t) ∷ [])
+plainFree site es c t = every (ltb c (site .cells) ∷ leb t (site .horizon) ∷ clearAround site (taken es c) t ∷ [])
+
+-- what a closure may take: in no entry, and in none of a tug's within the margin
+unfoldable pub plainClosable : Site → List Entry → Free
+plainClosable site es c t =
+    every (ltb c (site .cells) ∷ leb t (site .horizon) ∷ not (taken es c t) ∷ clearAround site (tugTaken es c) t ∷ [])
 
 -- a holder stands if it has an entry
 abbrev pub hasEntry : List Entry → ℕ → Bool
 hasEntry es h = any (λ (e : Entry). eqb (e .holder) h) es
 
 unfoldable pub plainView : Site → Plain → View
-plainView site p = record { edition = p .edition; stands = hasEntry (p .entries); free = plainFree site (p .entries) }
+plainView site p =
+    record {
+      edition = p .edition;
+      stands = hasEntry (p .entries);
+      free = plainFree site (p .entries);
+      closable = plainClosable site (p .entries);
+    }
 
 -- ---- a call
 

@@ -5,7 +5,7 @@ use mathlib.Core.List.{List, [], _∷_, map}
 use mathlib.Core.Bool.{Bool, false, _&&_, not}
 use lib.ListN.{length, getD, take, drop}
 use lib.Dec.{leb, ltb, eqb}
-use Rattle.meaning.specs.Limits.{fileLimit, horizonLimit, cellLimit, stateLimit, motionLimit, sweepLimit, headTag, stateTag, motionTag, headSize, stateSize, motionSize, sweepSize}
+use Rattle.meaning.specs.Limits.{fileLimit, horizonLimit, cellLimit, stateLimit, marginLimit, motionLimit, sweepLimit, headTag, stateTag, motionTag, headSize, stateSize, motionSize, sweepSize}
 use Rattle.meaning.specs.Basics.{any, all, allBelow, within, u16At}
 use Rattle.meaning.specs.Runs.{meets}
 use Rattle.meaning.specs.Answers.{Refusal, _if_, lowest, Answer, answer}
@@ -28,10 +28,11 @@ pub record Motion : Type 0 where
   pub span : ℕ
   pub sweeps : List Sweep
 
--- H, C, and the states and motions, numbered from 0
+-- H, C, the margin m, and the states and motions, numbered from 0
 pub record Site : Type 0 where
   pub horizon : ℕ
   pub cells : ℕ
+  pub margin : ℕ
   pub states : List State
   pub motions : List Motion
 
@@ -86,6 +87,7 @@ siteOf file =
     record {
       horizon = u16At (headOf file .value) 0;
       cells = getD (headOf file .value) 2 0;
+      margin = getD (headOf file .value) 5 0;
       states = map stateOf (take (stateCount file) (laterOf file));
       motions = map motionOf (drop (stateCount file) (laterOf file));
     }
@@ -96,6 +98,7 @@ unfoldable pub headGood : Field → Bool
 headGood f =
     eqb (f .tag) headTag && eqb (length (f .value)) headSize && within 1 horizonLimit (u16At (f .value) 0)
     && within 1 cellLimit (getD (f .value) 2 0) && within 1 stateLimit (u16At (f .value) 3)
+    && leb (getD (f .value) 5 0) marginLimit
 
 -- ---- 4: tags, lengths, order and number
 

@@ -43,7 +43,13 @@ fn start_free(file: &[u8], board: &[u8], sizes: Sizes, a: Node) -> bool
     }
     if time::in_time(a.tick, sizes.horizon) {
         let cell = site_read::state_cell(file, state);
-        board_ticks::is_free(board, sizes.horizon, cell, time::number(a.tick))
+        board_ticks::is_free(
+            board,
+            sizes.horizon,
+            sizes.margin,
+            cell,
+            time::number(a.tick),
+        )
     } else {
         false
     }

@@ -34,6 +34,7 @@ pub record Known (file : List ℕ) (room : ℕ) (l : Sizes) : Type 0 where
   pub laid : Laid file
   pub short : siteOf file .horizon ≤ horizonLimit
   pub horizon : siteOf file .horizon ≡ l .horizon
+  pub margin : siteOf file .margin ≡ l .margin
   pub states : length (siteOf file .states) ≡ l .states
   pub motions : length (siteOf file .motions) ≡ l .motions
   pub cell : (s : ℕ) → s < length (siteOf file .states) → cellOf (siteOf file) s < siteOf file .cells
@@ -48,6 +49,7 @@ known {file} {room} {l} r =
       laid = read-laid file _ (r .read);
       short = short;
       horizon = same;
+      margin = ap (λ (x : Sizes). x .margin) (sym (r .sizes));
       states = ap (λ (x : Sizes). x .states) (sym (r .sizes));
       motions = ap (λ (x : Sizes). x .motions) (sym (r .sizes));
       cell = cell-known (siteOf file) well;

@@ -45,7 +45,14 @@ fn sweep_free(file: &[u8], board: &[u8], sizes: Sizes, w: Sweep, t: Tick) -> boo
     ensures { λ r. ⌜ r ≡ freeFromTo (free (siteOf (now (file .entry))) (now (board .entry))) (w .cell) (t .0 + w .first) (t .0 + w .last) ⌝ }
 {
     let ticks = swept_ticks(w, t);
-    board_ticks::run_free(board, sizes.horizon, w.cell, ticks.first, ticks.last)
+    board_ticks::run_free(
+        board,
+        sizes.horizon,
+        sizes.margin,
+        w.cell,
+        ticks.first,
+        ticks.last,
+    )
 }
 
 // Each swept cell of the motion is free while the motion uses it, where it starts at `t`.
@@ -83,6 +90,7 @@ pub fn can_stay(file: &[u8], board: &[u8], sizes: Sizes, a: Node, n: Span) -> bo
         board_ticks::run_free(
             board,
             sizes.horizon,
+            sizes.margin,
             cell,
             time::number(a.tick),
             time::number(last),

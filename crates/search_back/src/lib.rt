@@ -40,7 +40,7 @@ fn wait_hit(
     }
     if search_ticks::is_set(reached, s, t - 1) {
         let cell = search_site::cell_of(states, n, s);
-        return board_ticks::run_free(board, sizes.horizon, cell, t - 1, t);
+        return board_ticks::run_free(board, sizes.horizon, sizes.margin, cell, t - 1, t);
     }
     false
 }

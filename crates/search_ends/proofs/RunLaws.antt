@@ -83,15 +83,15 @@ pub record Told (frees : ℕ → Bool) (horizon dwell : ℕ) (ends : List ℕ) (
   pub run-is : run ≡ freeRun frees t (horizon + 1 - t)
   pub ends-are : (x : ℕ) → t ≤ x → x ≤ horizon → getD ends x 0 ≡ cond (ltb dwell (freeRun frees x (horizon + 1 - x))) 1 0
 
-pub record Looked (board : List ℕ) (horizon cell tick dwell : ℕ) (ends : List ℕ) (t run : ℕ) : Type 0 where
+pub record Looked (board : List ℕ) (horizon margin cell tick dwell : ℕ) (ends : List ℕ) (t run : ℕ) : Type 0 where
   pub late : tick ≤ t
   pub early : t ≤ horizon + 1
   pub short : run ≤ horizon + 1 - t
   pub sized : length ends ≡ ticks
-  pub told : (site : Site) → site .horizon ≡ horizon → cell < site .cells → Told (free site board cell) horizon dwell ends t run
+  pub told : (site : Site) → site .horizon ≡ horizon → site .margin ≡ margin → cell < site .cells → Told (free site board cell) horizon dwell ends t run
 
-module _ (board : List ℕ) (horizon cell tick dwell : ℕ) where
-  pub looked-none : tick ≤ horizon → Looked board horizon cell tick dwell (replicate ticks 0) (horizon + 1) 0
+module _ (board : List ℕ) (horizon margin cell tick dwell : ℕ) where
+  pub looked-none : tick ≤ horizon → Looked board horizon margin cell tick dwell (replicate ticks 0) (horizon + 1) 0
   unfolding freeRun
   looked-none in-time =
       let none : horizon + 1 - (horizon + 1) ≡ 0 = omega arith in
@@ -100,13 +100,13 @@ module _ (board : List ℕ) (horizon cell tick dwell : ℕ) where
         early = omega arith;
         short = omega arith;
         sized = length-replicate {A = ℕ} ticks 0;
-        told = λ site same known. record { run-is = rw none refl; ends-are = λ x lo hi. absurd (omega arith) };
+        told = λ site same spaced known. record { run-is = rw none refl; ends-are = λ x lo hi. absurd (omega arith) };
       }
 
   pub looked-more : (ends : List ℕ) (t run next end : ℕ) → tick < t → horizon < ticks
-      → ((site : Site) → site .horizon ≡ horizon → cell < site .cells → next ≡ cond (free site board cell (t - 1)) (run + 1) 0)
+      → ((site : Site) → site .horizon ≡ horizon → site .margin ≡ margin → cell < site .cells → next ≡ cond (free site board cell (t - 1)) (run + 1) 0)
       → next ≤ run + 1 → end ≡ cond (ltb dwell next) 1 0
-      → Looked board horizon cell tick dwell ends t run → Looked board horizon cell tick dwell (set ends (t - 1) end) (t - 1) next
+      → Looked board horizon margin cell tick dwell ends t run → Looked board horizon margin cell tick dwell (set ends (t - 1) end) (t - 1) next
   looked-more ends t run next end more room is-run small is-end g =
       let early = g .early in
       let short = g .short in
@@ -116,10 +116,10 @@ module _ (board : List ℕ) (horizon cell tick dwell : ℕ) where
         early = omega arith;
         short = omega arith;
         sized = simp length-set (g .sized);
-        told = λ site same known.
-            let old = g .told site same known in
+        told = λ site same spaced known.
+            let old = g .told site same spaced known in
             let is : next ≡ freeRun (free site board cell) (t - 1) (horizon + 1 - (t - 1)) =
-            is-run site same known ∙ run-earlier (free site board cell) horizon t run (omega arith) early (old .run-is) in
+            is-run site same spaced known ∙ run-earlier (free site board cell) horizon t run (omega arith) early (old .run-is) in
             record {
               run-is = is;
               ends-are = λ x lo hi. decide (eqb x (t - 1))
@@ -131,10 +131,10 @@ module _ (board : List ℕ) (horizon cell tick dwell : ℕ) where
       }
 
   -- all are looked at
-  pub looked-all : (ends : List ℕ) (t run : ℕ) → t ≤ tick → Looked board horizon cell tick dwell ends t run
-      → (site : Site) (goal : ℕ) → site .horizon ≡ horizon → cellOf site goal ≡ cell → cell < site .cells
+  pub looked-all : (ends : List ℕ) (t run : ℕ) → t ≤ tick → Looked board horizon margin cell tick dwell ends t run
+      → (site : Site) (goal : ℕ) → site .horizon ≡ horizon → site .margin ≡ margin → cellOf site goal ≡ cell → cell < site .cells
       → (x : ℕ) → tick ≤ x → x ≤ horizon → getD ends x 0 ≡ cond (canUnload site (free site board) (node goal x) dwell) 1 0
-  looked-all ends t run done g site goal same is-cell known x lo hi =
+  looked-all ends t run done g site goal same spaced is-cell known x lo hi =
       let can : canUnload site (free site board) (node goal x) dwell ≡ ltb dwell (freeRun (free site board cell) x (horizon + 1 - x)) =
       unload-run site (free site board) goal dwell x (omega arith) ∙ ap₂ (λ (h c : ℕ). ltb dwell (freeRun (free site board c) x (h + 1 - x))) same is-cell in
-      g .told site same known .ends-are x (omega arith) hi ∙ ap (λ (b : Bool). cond b 1 0) (sym can)
+      g .told site same spaced known .ends-are x (omega arith) hi ∙ ap (λ (b : Bool). cond b 1 0) (sym can)

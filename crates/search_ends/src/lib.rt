@@ -13,12 +13,19 @@ ghost use Rattle.board_ticks.specs.Runs.{Row};
 ghost use Rattle.search_ends.specs.Ends.{endsIn, First};
 
 // How many ticks from t on the cell is free without a gap, where `later` is that number from the next tick on.
-fn free_run(board: &[u8], horizon: usize, cell: usize, t: usize, later: usize) -> usize
+fn free_run(
+    board: &[u8],
+    horizon: usize,
+    margin: usize,
+    cell: usize,
+    t: usize,
+    later: usize,
+) -> usize
     requires { ⌜ Row (length (now board)) horizon cell t × (later ≤ ticks) ⌝ }
-    ensures { λ r. ⌜ ((site : Site) → site .horizon ≡ horizon → cell < site .cells → r ≡ cond (free site (now (board .entry)) cell t) (later + 1) 0) ⌝ }
+    ensures { λ r. ⌜ ((site : Site) → site .horizon ≡ horizon → site .margin ≡ margin → cell < site .cells → r ≡ cond (free site (now (board .entry)) cell t) (later + 1) 0) ⌝ }
     ensures { λ r. ⌜ r ≤ later + 1 ⌝ }
 {
-    if board_ticks::is_free(board, horizon, cell, t) {
+    if board_ticks::is_free(board, horizon, margin, cell, t) {
         return later + 1;
     }
     0
@@ -33,9 +40,16 @@ fn long_enough(run: usize, dwell: usize) -> u8
 
 // At each tick from `tick` on 1 where the cell is free for the dwell, which ends by the horizon. The ticks are looked at from the last to the
 // first, so that one look at each tells how long it stays free.
-pub fn ends_of(board: &[u8], horizon: usize, cell: usize, tick: usize, dwell: usize) -> [u8; TICKS]
+pub fn ends_of(
+    board: &[u8],
+    horizon: usize,
+    margin: usize,
+    cell: usize,
+    tick: usize,
+    dwell: usize,
+) -> [u8; TICKS]
     requires { ⌜ Row (length (now board)) horizon cell tick ⌝ }
-    ensures { λ r. ⌜ ((site : Site) (goal : ℕ) → site .horizon ≡ horizon → cellOf site goal ≡ cell → cell < site .cells
+    ensures { λ r. ⌜ ((site : Site) (goal : ℕ) → site .horizon ≡ horizon → site .margin ≡ margin → cellOf site goal ≡ cell → cell < site .cells
         → (t : ℕ) → tick ≤ t → t ≤ horizon → getD r t 0 ≡ cond (canUnload site (free site (now (board .entry))) (node goal t) dwell) 1 0) ⌝ }
 {
     let mut ends = [0u8; TICKS];
@@ -43,7 +57,7 @@ pub fn ends_of(board: &[u8], horizon: usize, cell: usize, tick: usize, dwell: us
     let mut run = 0;
     while tick < t {
         t -= 1;
-        run = free_run(board, horizon, cell, t, run);
+        run = free_run(board, horizon, margin, cell, t, run);
         ends[t] = long_enough(run, dwell);
     }
     ends

@@ -1,3 +1,3 @@
-mod EightLaws
-pub mod FreeLaws
-mod TurnLaws
+mod CellLaws
+mod FreeLaws
+mod MarginLaws

@@ -3,136 +3,19 @@ use search_sizes::BLOCK_TICKS;
 use search_sizes::BLOCK_WORDS;
 use search_sizes::WINDOW_WORDS;
 ghost use mathlib.Core.Path.{_≡_};
-ghost use Prim.Native.Nat.{_+_, _*_, _≤_, _<_, min};
+ghost use Prim.Native.Nat.{ℕ, _+_, _*_, _≤_, _<_, min};
+ghost use lib.Dec.{ltb};
 ghost use lib.ListN.{length};
-ghost use Rattle.meaning.specs.Limits.{horizonLimit, cellLimit, header};
-ghost use Rattle.search_sizes.specs.Sizes.{blockTicks, blocks, windowWords, windowTicks};
+ghost use Rattle.meaning.specs.Limits.{horizonLimit, cellLimit, marginLimit, header};
+ghost use Rattle.search_sizes.specs.Sizes.{blockTicks, blocks, windowWords, windowTicks, ticks};
+ghost use Rattle.search_ticks.specs.Bits.{bit};
 ghost use Rattle.search_ticks.specs.Rows.{Put};
-ghost use Rattle.search_free.specs.Frees.{freeBit, freeWord, freeTo, heldOf, exchanged, turnedOf, wordOfBytes, FreeBlock, ZeroFrom};
+ghost use Rattle.search_free.specs.Frees.{freeTo, heldTo, heldBefore, spacedTo, FreeBlock};
 
 fn least(a: usize, b: usize) -> usize
     ensures { λ r. ⌜ r ≡ min a b ⌝ }
 {
     if a < b { a } else { b }
-}
-
-fn free_bit(b: u8) -> u64
-    ensures { λ r. ⌜ r ≡ freeBit b ⌝ }
-    ensures { λ r. ⌜ r ≤ 1 ⌝ }
-{
-    if board_sorts::is_free_byte(b) { 1 } else { 0 }
-}
-
-// The n bytes of the board from `start` on as bits: set where the byte is 0.
-fn free_bits(board: &[u8], start: usize, n: usize) -> u64
-    requires { ⌜ (n ≤ 64) × (start + n ≤ length (now board)) ⌝ }
-    ensures { λ r. ⌜ r ≡ freeWord (now (board .entry)) start n ⌝ }
-{
-    let mut word: u64 = 0;
-    let mut left = n;
-    while 0 < left {
-        left -= 1;
-        word = word * 2 + free_bit(board[start + left]);
-    }
-    word
-}
-
-// The union of the 64 bytes of the board from `start` on: 0 only if each byte is 0.
-fn bytes_union(board: &[u8], start: usize) -> u8
-    requires { ⌜ start + 64 ≤ length (now board) ⌝ }
-    ensures { λ r. ⌜ (r ≡ 0 → ZeroFrom (now (board .entry)) start 64) ⌝ }
-{
-    let mut all: u8 = 0;
-    let mut i = 0;
-    while i < 64 {
-        all = all | board[start + i];
-        i += 1;
-    }
-    all
-}
-
-// ---- 64 bytes at once, eight at a time
-
-fn wide(b: u8) -> u64
-    ensures { λ r. ⌜ (r ≡ b) × (r < 256) ⌝ }
-{
-    b as u64
-}
-
-// Two, four and eight bytes from `p` on as one number, the first one lowest.
-fn load_two(board: &[u8], p: usize) -> u64
-    requires { ⌜ p + 2 ≤ length (now board) ⌝ }
-    ensures { λ r. ⌜ r ≡ wordOfBytes (now (board .entry)) p 2 ⌝ }
-{
-    wide(board[p]) | (wide(board[p + 1]) << 8)
-}
-
-fn load_four(board: &[u8], p: usize) -> u64
-    requires { ⌜ p + 4 ≤ length (now board) ⌝ }
-    ensures { λ r. ⌜ r ≡ wordOfBytes (now (board .entry)) p 4 ⌝ }
-{
-    load_two(board, p) | (load_two(board, p + 2) << 16)
-}
-
-fn load_eight(board: &[u8], p: usize) -> u64
-    requires { ⌜ p + 8 ≤ length (now board) ⌝ }
-    ensures { λ r. ⌜ r ≡ wordOfBytes (now (board .entry)) p 8 ⌝ }
-{
-    load_four(board, p) | (load_four(board, p + 4) << 32)
-}
-
-// The highest bit of each byte of x that is not 0.
-fn held_eight(x: u64) -> u64
-    ensures { λ r. ⌜ r ≡ heldOf x ⌝ }
-{
-    let low: u64 = 9187201950435737471;
-    (((x & low) + low) | x) & 9259542123273814144
-}
-
-// Exchanges the bits of x that the mask has with those that stand k higher.
-fn exchange(x: u64, k: u64, mask: u64) -> u64
-    requires { ⌜ k < 64 ⌝ }
-    ensures { λ r. ⌜ r ≡ exchanged k mask x ⌝ }
-{
-    let t = (x ^ (x >> k)) & mask;
-    (x ^ t) ^ (t << k)
-}
-
-// Bit i of byte j becomes bit j of byte i.
-fn turn(x: u64) -> u64
-    ensures { λ r. ⌜ r ≡ turnedOf x ⌝ }
-{
-    let y = exchange(x, 7, 47851476196393130);
-    let z = exchange(y, 14, 225176545447116);
-    exchange(z, 28, 4042322160)
-}
-
-// The 64 bytes of the board from `start` on as bits: set where the byte is 0.
-fn free_all(board: &[u8], start: usize) -> u64
-    requires { ⌜ start + 64 ≤ length (now board) ⌝ }
-    ensures { λ r. ⌜ r ≡ freeWord (now (board .entry)) start 64 ⌝ }
-{
-    let mut x: u64 = 0;
-    let mut j = 0;
-    while j < 8 {
-        x = (x >> 1) | held_eight(load_eight(board, start + 8 * j));
-        j += 1;
-    }
-    turn(x) ^ 18446744073709551615
-}
-
-// The same bits as `free_bits`: most boards have many words of free ticks alone.
-fn free_word(board: &[u8], start: usize, n: usize) -> u64
-    requires { ⌜ (n ≤ 64) × (start + n ≤ length (now board)) ⌝ }
-    ensures { λ r. ⌜ r ≡ freeWord (now (board .entry)) start n ⌝ }
-{
-    if n < 64 {
-        return free_bits(board, start, n);
-    }
-    if bytes_union(board, start) == 0 {
-        return 18446744073709551615;
-    }
-    free_all(board, start)
 }
 
 // ---- rows
@@ -147,21 +30,125 @@ fn free_row(tab: &mut [u64], board: &[u8], c: usize, start: usize, width: usize,
     while i < BLOCK_WORDS {
         let low = least(block * BLOCK_TICKS + i * 64, width);
         let high = least(block * BLOCK_TICKS + i * 64 + 64, width);
-        tab[a + i] = free_word(board, start + low, high - low);
+        tab[a + i] = search_bytes::free_word(board, start + low, high - low);
         i += 1;
     }
 }
 
+// ---- rows with a margin
+
+// The bits of the 64 ticks from `tick` on that are among the first `width`.
+fn present(width: usize, tick: usize) -> u64
+    ensures { λ r. ⌜ ((i : ℕ) → i < 64 → bit r i ≡ ltb (tick + i) width) ⌝ }
+{
+    if width <= tick {
+        return 0;
+    }
+    if width - tick < 64 {
+        return (1 << (width - tick)) - 1;
+    }
+    18446744073709551615
+}
+
+// Those of them whose byte is not 0, where the cell's `width` bytes begin at `start`.
+fn held_word(board: &[u8], start: usize, width: usize, tick: usize) -> u64
+    requires { ⌜ (start + width ≤ length (now board)) × (tick ≤ ticks) ⌝ }
+    ensures { λ r. ⌜ ((i : ℕ) → i < 64 → bit r i ≡ heldTo (now (board .entry)) start width (tick + i)) ⌝ }
+{
+    let low = least(tick, width);
+    let high = least(tick + 64, width);
+    search_bytes::free_word(board, start + low, high - low) ^ present(width, tick)
+}
+
+// The same of the 64 ticks before the block: nothing is held before tick 0.
+fn held_before(board: &[u8], start: usize, width: usize, block: usize) -> u64
+    requires { ⌜ (start + width ≤ length (now board)) × (block < blocks) ⌝ }
+    ensures { λ r. ⌜ ((i : ℕ) → i < 64 → bit r i ≡ heldBefore (now (board .entry)) start width (blockTicks * block + i)) ⌝ }
+{
+    if block == 0 {
+        return 0;
+    }
+    held_word(board, start, width, block * BLOCK_TICKS - 64)
+}
+
+// As `free_row`, with a margin m: a tick is free if no tick of the cell is held from m before it to m after it.
+fn spaced_row(
+    tab: &mut [u64],
+    board: &[u8],
+    c: usize,
+    start: usize,
+    width: usize,
+    m: u64,
+    block: usize,
+)
+    requires { ⌜ (c * windowWords + windowWords ≤ length (now tab)) × ((start + width ≤ length (now board)) × (block < blocks)) ⌝ }
+    requires { ⌜ (1 ≤ m) × (m < 32) ⌝ }
+    ensures { λ _. ⌜ Put (now (tab .entry)) (now (tab .exit)) (c * windowTicks + blockTicks) (λ i. spacedTo (now (board .entry)) start width m (blockTicks * block + i)) ⌝ }
+{
+    let a = c * WINDOW_WORDS + BLOCK_WORDS;
+    let mut tick = block * BLOCK_TICKS;
+    let mut before = held_before(board, start, width, block);
+    let mut here = held_word(board, start, width, tick);
+    let mut i = 0;
+    while i < BLOCK_WORDS {
+        let after = held_word(board, start, width, tick + 64);
+        let near = search_margin::widened(before, here, after, m);
+        tab[a + i] = (near | present(width, tick)) ^ near;
+        before = here;
+        here = after;
+        tick += 64;
+        i += 1;
+    }
+}
+
+// The second half of row c at any margin: without one, a word depends on its own ticks alone.
+fn margin_row(
+    tab: &mut [u64],
+    board: &[u8],
+    c: usize,
+    start: usize,
+    width: usize,
+    margin: usize,
+    block: usize,
+)
+    requires { ⌜ (c * windowWords + windowWords ≤ length (now tab)) × ((start + width ≤ length (now board)) × (block < blocks)) ⌝ }
+    requires { ⌜ margin < 32 ⌝ }
+    ensures { λ _. ⌜ Put (now (tab .entry)) (now (tab .exit)) (c * windowTicks + blockTicks) (λ i. spacedTo (now (board .entry)) start width margin (blockTicks * block + i)) ⌝ }
+{
+    if margin == 0 {
+        free_row(tab, board, c, start, width, block);
+        return;
+    }
+    spaced_row(tab, board, c, start, width, margin as u64, block);
+}
+
+// ---- all cells
+
 // The free ticks of every cell in the block, as the second halves of the first rows; the cells' bytes stand behind the board's header.
-pub fn free_block(tab: &mut [u64], board: &[u8], cells: usize, horizon: usize, block: usize)
+pub fn free_block(
+    tab: &mut [u64],
+    board: &[u8],
+    cells: usize,
+    horizon: usize,
+    margin: usize,
+    block: usize,
+)
     requires { ⌜ (cells ≤ cellLimit) × ((horizon ≤ horizonLimit) × (header + cells * (horizon + 1) ≤ length (now board))) ⌝ }
-    requires { ⌜ (cells * windowWords ≤ length (now tab)) × (block < blocks) ⌝ }
-    ensures { λ _. ⌜ FreeBlock (now (board .entry)) cells horizon block (now (tab .entry)) (now (tab .exit)) ⌝ }
+    requires { ⌜ (cells * windowWords ≤ length (now tab)) × ((block < blocks) × (margin ≤ marginLimit)) ⌝ }
+    ensures { λ _. ⌜ FreeBlock (now (board .entry)) cells horizon margin block (now (tab .entry)) (now (tab .exit)) ⌝ }
 {
     let width = horizon + 1;
     let mut c = 0;
     while c < cells {
-        free_row(tab, board, c, board::HEADER + c * width, width, block);
+        margin_row(
+            tab,
+            board,
+            c,
+            board::HEADER + c * width,
+            width,
+            margin,
+            block,
+        );
         c += 1;
     }
 }

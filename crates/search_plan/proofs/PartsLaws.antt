@@ -79,6 +79,9 @@ module _ (file board : List ℕ) (l : Sizes) (trip : Trip) (q : Asked file l (le
   pub same-horizon : site .horizon ≡ l .horizon
   same-horizon = sym (ap (λ (k : Sizes). k .horizon) (q .ready .sizes))
 
+  same-margin : site .margin ≡ l .margin
+  same-margin = sym (ap (λ (k : Sizes). k .margin) (q .ready .sizes))
+
   pub same-cells : site .cells ≡ l .cells
   same-cells = sym (ap (λ (k : Sizes). k .cells) (q .ready .sizes))
 
@@ -134,18 +137,18 @@ module _ (file board : List ℕ) (l : Sizes) (trip : Trip) (q : Asked file l (le
         }
 
     -- whether the start is free, and where the tug can unload, as they are found on the board
-    pub start-is : (c : ℕ) (b : Bool) → c ≡ cellAt st start → ((s : Site) → s .horizon ≡ l .horizon → c < s .cells → b ≡ free s board c tick) → b ≡ f (cellOf site start) tick
+    pub start-is : (c : ℕ) (b : Bool) → c ≡ cellAt st start → ((s : Site) → s .horizon ≡ l .horizon → s .margin ≡ l .margin → c < s .cells → b ≡ free s board c tick) → b ≡ f (cellOf site start) tick
     start-is c b e says =
         let below = ranges .start-below in
-        says site same-horizon (cell-below start c below e) ∙ ap (λ (x : ℕ). f x tick) (cell-is start c below e)
+        says site same-horizon same-margin (cell-below start c below e) ∙ ap (λ (x : ℕ). f x tick) (cell-is start c below e)
 
     pub ends-in : (c : ℕ) (ends : List ℕ) → c ≡ cellAt st goal
-        → ((s : Site) (g : ℕ) → s .horizon ≡ l .horizon → cellOf s g ≡ c → c < s .cells
+        → ((s : Site) (g : ℕ) → s .horizon ≡ l .horizon → s .margin ≡ l .margin → cellOf s g ≡ c → c < s .cells
         → (t : ℕ) → tick ≤ t → t ≤ l .horizon → getD ends t 0 ≡ cond (canUnload s (free s board) (node g t) dwell) 1 0)
         → EndsRight site f goal dwell tick ends
     ends-in c ends e says t lo hi =
         let below = ranges .goal-below in
-        says site goal same-horizon (sym (cell-is goal c below e)) (cell-below goal c below e) t lo (omega (arith, same-horizon))
+        says site goal same-horizon same-margin (sym (cell-is goal c below e)) (cell-below goal c below e) t lo (omega (arith, same-horizon))
 
     module _ (mv : List ℕ) (moves : MotionsDecoded file mv) where
       pub motions-in : motionNumbers ≤ length mv → Motions (l .motions) mv

@@ -259,11 +259,18 @@ pub fn search(
     let states = search_site::decode_states(file, sizes.states);
     let tick = trip.tick as usize;
     let cell = search_site::cell_of(&states, sizes.states, trip.start as usize);
-    if !board_ticks::is_free(board, sizes.horizon, cell, tick) {
+    if !board_ticks::is_free(board, sizes.horizon, sizes.margin, cell, tick) {
         return Traced::Missing;
     }
     let dock = search_site::cell_of(&states, sizes.states, trip.goal as usize);
-    let ends = search_ends::ends_of(board, sizes.horizon, dock, tick, trip.dwell as usize);
+    let ends = search_ends::ends_of(
+        board,
+        sizes.horizon,
+        sizes.margin,
+        dock,
+        tick,
+        trip.dwell as usize,
+    );
     if !search_ends::some_end(&ends, tick, sizes.horizon) {
         return Traced::Missing;
     }

@@ -46,11 +46,11 @@ module _ (g : ℕ → ℕ → Bool) (cells tables b : ℕ) where
   halves-shifted tab₀ tab shifted ahead t c i h lt small =
       shifted .moved (t * cells + c) i (row-below t c cells tables h lt) small ∙ ahead t c i h lt small
 
-  pub halves-freed : (board tab₀ tab : List ℕ) (horizon : ℕ) → FreeBlock board cells horizon b tab₀ tab → Halves g cells tables b tab₀ → Halves g cells tables b tab
-  halves-freed board tab₀ tab horizon freed halves zero c i h lt small =
+  pub halves-freed : (board tab₀ tab : List ℕ) (horizon margin : ℕ) → FreeBlock board cells horizon margin b tab₀ tab → Halves g cells tables b tab₀ → Halves g cells tables b tab
+  halves-freed board tab₀ tab horizon margin freed halves zero c i h lt small =
       let first : 0 * cells + c ≡ c = omega arith in
       subst (λ (r : ℕ). at tab (r * windowTicks + i) ≡ at tab₀ (r * windowTicks + i)) (sym first) (freed .early c i lt small) ∙ halves zero c i h lt small
-  halves-freed board tab₀ tab horizon freed halves (suc t) c i h lt small =
+  halves-freed board tab₀ tab horizon margin freed halves (suc t) c i h lt small =
       let row = suc-mul t cells in
       freed .after ((suc t * cells + c) * windowTicks + i) (omega arith) ∙ halves (suc t) c i h lt small
 
@@ -61,11 +61,11 @@ module _ (g : ℕ → ℕ → Bool) (cells tables b : ℕ) where
       let position : blockTicks * b + (blockTicks + i) ≡ blockTicks * (b + 1) + i = omega arith in
       ap (at tab) (sym place) ∙ right t c (blockTicks + i) h lt (omega arith) ∙ ap (λ (u : ℕ). ended (g c) (runLength t) u) position
 
-pub first-freed : (site : Site) (cells horizon b first : ℕ) (board tab₀ tab : List ℕ) → site .cells ≡ cells → site .horizon ≡ horizon → first ≤ b
-    → FreeBlock board cells horizon b tab₀ tab → FirstTable (freeFrom (free site board) first) cells b tab
-first-freed site cells horizon b first board tab₀ tab same-cells same-horizon late freed c i lt small =
+pub first-freed : (site : Site) (cells horizon margin b first : ℕ) (board tab₀ tab : List ℕ) → site .cells ≡ cells → site .horizon ≡ horizon
+    → site .margin ≡ margin → first ≤ b → FreeBlock board cells horizon margin b tab₀ tab → FirstTable (freeFrom (free site board) first) cells b tab
+first-freed site cells horizon margin b first board tab₀ tab same-cells same-horizon same-margin late freed c i lt small =
     let tick : blockStart b + i - blockTicks ≡ blockTicks * b + i = omega arith in
-    freed .late site same-cells same-horizon c i lt small
+    freed .late site same-cells same-horizon same-margin c i lt small
     ∙ sym (rw (le-leb (blockStart first) (blockStart b + i) (omega arith), tick) refl)
 
 -- ---- empty tables
@@ -117,6 +117,8 @@ pub record Facts (file : List ℕ) (room : ℕ) (l : Sizes) : Type 0 where
   pub well : WellFormed (siteOf file)
   pub cells : siteOf file .cells ≡ l .cells
   pub horizon : siteOf file .horizon ≡ l .horizon
+  pub margin : siteOf file .margin ≡ l .margin
+  pub near : l .margin ≤ 20
   pub few : l .cells ≤ 255
   pub short : l .horizon ≤ 1000
   pub board : 4 + l .cells * (l .horizon + 1) ≤ room
@@ -126,11 +128,14 @@ facts file room l ready =
     let w = read-well file (siteOf file) (ready .read) in
     let same-cells : siteOf file .cells ≡ l .cells = sym (ap (λ (k : Sizes). k .cells) (ready .sizes)) in
     let same-horizon : siteOf file .horizon ≡ l .horizon = sym (ap (λ (k : Sizes). k .horizon) (ready .sizes)) in
+    let same-margin : siteOf file .margin ≡ l .margin = sym (ap (λ (k : Sizes). k .margin) (ready .sizes)) in
     let size = ready .board ∙ ap (λ (c : ℕ). 4 + c * (siteOf file .horizon + 1)) same-cells ∙ ap (λ (h : ℕ). 4 + l .cells * (h + 1)) same-horizon in
     record {
       well = w;
       cells = same-cells;
       horizon = same-horizon;
+      margin = same-margin;
+      near = omega (arith, w .margin-range);
       few = omega (arith, w .cells-range);
       short = omega (arith, w .horizon-range);
       board = omega arith;
@@ -143,14 +148,14 @@ module _ (file board : List ℕ) (l : Sizes) (tables b first : ℕ) (ready : Rea
   g = freeFrom (free (siteOf file) board) first
 
   -- the tables of the block are right, from what the block before it left
-  pub tables-made : (tab₀ tab₁ tab₂ tab₃ : List ℕ) → first ≤ b → Shifted tab₀ tab₁ (tables * l .cells) → FreeBlock board (l .cells) (l .horizon) b tab₁ tab₂
+  pub tables-made : (tab₀ tab₁ tab₂ tab₃ : List ℕ) → first ≤ b → Shifted tab₀ tab₁ (tables * l .cells) → FreeBlock board (l .cells) (l .horizon) (l .margin) b tab₁ tab₂
       → ((h : ℕ → ℕ → Bool) (d : ℕ) → Halves h (l .cells) tables d tab₂ → FirstTable h (l .cells) d tab₂ → Tables h (l .cells) tables d tab₃)
       → Ahead g (l .cells) tables b tab₀ → Tables g (l .cells) tables b tab₃
   tables-made tab₀ tab₁ tab₂ tab₃ late shifted freed filled ahead =
       let q = facts file (length board) l ready in
       filled g b
-      (halves-freed g (l .cells) tables b board tab₁ tab₂ (l .horizon) freed (halves-shifted g (l .cells) tables b tab₀ tab₁ shifted ahead))
-      (first-freed (siteOf file) (l .cells) (l .horizon) b first board tab₁ tab₂ (q .cells) (q .horizon) late freed)
+      (halves-freed g (l .cells) tables b board tab₁ tab₂ (l .horizon) (l .margin) freed (halves-shifted g (l .cells) tables b tab₀ tab₁ shifted ahead))
+      (first-freed (siteOf file) (l .cells) (l .horizon) (l .margin) b first board tab₁ tab₂ (q .cells) (q .horizon) (q .margin) late freed)
 
   pub right-made : (st mv tab : List ℕ) (tab-size al re : ℕ) → InArrays file l st mv → Space l mv tables tab-size al re → Tables g (l .cells) tables b tab
       → TablesRight g (l .cells) (l .states) (l .motions) b st mv file tab

@@ -56,7 +56,7 @@ fn explore_block(
         × Closed (sizes .states) (sizes .motions) (now (states .entry)) (now (motions .entry)) (now (file .entry)) (freeFrom (free (siteOf (now (file .entry))) (now (board .entry))) first) block (has (now (reached .exit))))) ⌝ }
 {
     search_runs::shift_rows(tab, tables * sizes.cells);
-    search_free::free_block(tab, board, sizes.cells, sizes.horizon, block);
+    search_free::free_block(tab, board, sizes.cells, sizes.horizon, sizes.margin, block);
     search_runs::fill_runs(tab, sizes.cells, tables);
     search_fixpoint::settle(
         states,

@@ -63,9 +63,10 @@ pub layout-same : (file : List ℕ) (head : Head) → HeadHere file → HeadIs f
     → layoutGood (stateCount file) (laterOf file) ≡ layoutGood (head .states) (listed (fieldsAt file (head .start)))
 layout-same file head h e = rw (h .later, e .states, e .start)
 
-same-layout : {h h′ c c′ s s′ m m′ t t′ : ℕ} → h ≡ h′ → c ≡ c′ → s ≡ s′ → m ≡ m′ → t ≡ t′ →
-    Passed (record { horizon = h; cells = c; states = s; motions = m; start = t }) ≡ Passed (record { horizon = h′; cells = c′; states = s′; motions = m′; start = t′ })
-same-layout p q r s t = λ i. Passed (record { horizon = p i; cells = q i; states = r i; motions = s i; start = t i })
+same-layout : {h h′ c c′ a a′ s s′ m m′ t t′ : ℕ} → h ≡ h′ → c ≡ c′ → a ≡ a′ → s ≡ s′ → m ≡ m′ → t ≡ t′ →
+    Passed (record { horizon = h; cells = c; margin = a; states = s; motions = m; start = t })
+    ≡ Passed (record { horizon = h′; cells = c′; margin = a′; states = s′; motions = m′; start = t′ })
+same-layout p q a r s t = λ i. Passed (record { horizon = p i; cells = q i; margin = a i; states = r i; motions = s i; start = t i })
 
 module _ (file : List ℕ) (d : Laid file) (head : Head) (e : HeadIs file head) where
   pub count-is : head .states ≡ length (siteOf file .states)
@@ -78,6 +79,6 @@ module _ (file : List ℕ) (d : Laid file) (head : Head) (e : HeadIs file head) 
   motions-count start n p q = q ∙ sym (ap length (motions-start start p .1) ∙ simp length-map)
 
   pub accepted-is : (start n : ℕ) → start ≡ statePlace (head .states) → n ≡ length (listed (fieldsAt file start)) →
-      Passed (sizesOf (siteOf file)) ≡ Passed (record { horizon = head .horizon; cells = head .cells; states = head .states; motions = n; start = start })
+      Passed (sizesOf (siteOf file)) ≡ Passed (record { horizon = head .horizon; cells = head .cells; margin = head .margin; states = head .states; motions = n; start = start })
   accepted-is start n p q =
-      same-layout (sym (e .horizon)) (sym (e .cells)) (sym count-is) (sym (motions-count start n p q)) (sym (p ∙ ap statePlace count-is))
+      same-layout (sym (e .horizon)) (sym (e .cells)) (sym (e .margin)) (sym count-is) (sym (motions-count start n p q)) (sym (p ∙ ap statePlace count-is))

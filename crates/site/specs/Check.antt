@@ -8,12 +8,13 @@ use Rattle.site.specs.declared.Sizes.{Sizes}
 use Rattle.site.specs.declared.Check.{Check}
 use Rattle.site.specs.declared.Check.the-variants.{Passed, Refused}
 
--- what is said of an accepted site: H, C, the counts, and where the motions start
+-- what is said of an accepted site: H, C, the margin, the counts, and where the motions start
 abbrev pub sizesOf : Site → Sizes
 sizesOf site =
     record {
       horizon = site .horizon;
       cells = site .cells;
+      margin = site .margin;
       states = length (site .states);
       motions = length (site .motions);
       start = statePlace (length (site .states));

@@ -12,10 +12,11 @@ ghost use Rattle.site.specs.Check.{sizesOf, checkOf};
 // The most bytes of a site file.
 pub const FILE_LIMIT: usize = 65536;
 
-// What an accepted file says of its site: H, C, the counts, and where the motions start.
+// What an accepted file says of its site: H, C, the margin, the counts, and where the motions start.
 pub struct Sizes {
     pub horizon: usize,
     pub cells: usize,
+    pub margin: usize,
     pub states: usize,
     pub motions: usize,
     pub start: usize,
@@ -74,6 +75,7 @@ fn check_values(file: &[u8], head: Head) -> Check
     Check::Passed(Sizes {
         horizon: head.horizon,
         cells,
+        margin: head.margin,
         states: count,
         motions,
         start,

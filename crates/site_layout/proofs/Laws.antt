@@ -64,7 +64,7 @@ module _ (file : List ℕ) (h : Header) (w : Whole file 0 h) where
       let n = w .len in
       let t : fieldAt file 0 .tag ≡ 1 = field-tag file 0 ∙ sym (w .tag) ∙ p in
       let l : length (fieldAt file 0 .value) ≡ headSize = whole-length file 0 h w ∙ q in
-      simp (head-is, t, l, w .start, value-u16 file 0 0 (omega arith), value-byte file 0 2 (omega arith), value-u16 file 0 3 (omega arith))
+      simp (head-is, t, l, w .start, value-u16 file 0 0 (omega arith), value-byte file 0 2 (omega arith), value-u16 file 0 3 (omega arith), value-byte file 0 5 (omega arith))
 
 -- a head that is good
 pub record HeadHere (file : List ℕ) : Type 0 where
@@ -75,6 +75,7 @@ pub record HeadHere (file : List ℕ) : Type 0 where
   pub horizon : siteOf file .horizon ≡ u16At file 3
   pub cells : siteOf file .cells ≡ getD file 5 0
   pub count : stateCount file ≡ u16At file 6
+  pub margin : siteOf file .margin ≡ getD file 8 0
 
 pub head-here : (file : List ℕ) → complete (fields file) ≡ true → headGood (headOf file) ≡ true → HeadHere file
 unfolding listed laterOf stateCount siteOf
@@ -103,6 +104,7 @@ head-here file w g =
           horizon = rw h (value-u16 file 0 0 (omega arith));
           cells = rw h (value-byte file 0 2 (omega arith));
           count = rw h (value-u16 file 0 3 (omega arith));
+          margin = rw h (value-byte file 0 5 (omega arith));
         }
 
 -- its values, where the reader says that they start
@@ -112,6 +114,7 @@ pub record HeadRead (file : List ℕ) (h : Header) : Type 0 where
   pub horizon : u16At file (h .start) ≡ siteOf file .horizon
   pub cells : getD file (h .start + 2) 0 ≡ siteOf file .cells
   pub count : u16At file (h .start + 3) ≡ stateCount file
+  pub margin : getD file (h .start + 5) 0 ≡ siteOf file .margin
 
 pub head-read : (file : List ℕ) → HeadHere file → (h : Header) → Whole file 0 h → HeadRead file h
 head-read file x h w =
@@ -122,6 +125,7 @@ head-read file x h w =
       horizon = ap (u16At file) s ∙ sym (x .horizon);
       cells = ap (λ (k : ℕ). getD file (k + 2) 0) s ∙ sym (x .cells);
       count = ap (λ (k : ℕ). u16At file (k + 3)) s ∙ sym (x .count);
+      margin = ap (λ (k : ℕ). getD file (k + 5) 0) s ∙ sym (x .margin);
     }
 
 -- ---- a field's test, by what the reader says of it

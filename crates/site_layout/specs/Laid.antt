@@ -5,8 +5,8 @@ use mathlib.Core.Path.{_≡_}
 use mathlib.Core.List.{List, [], _∷_}
 use mathlib.Core.Bool.{Bool, true, false, _&&_}
 use lib.ListN.{length, getD}
-use lib.Dec.{eqb}
-use Rattle.meaning.specs.Limits.{horizonLimit, cellLimit, stateLimit, sweepLimit, fieldHeader, headSize, stateSize, motionSize, sweepSize}
+use lib.Dec.{leb, eqb}
+use Rattle.meaning.specs.Limits.{horizonLimit, cellLimit, stateLimit, marginLimit, sweepLimit, fieldHeader, headSize, stateSize, motionSize, sweepSize}
 use Rattle.meaning.specs.Basics.{within, u16At}
 use Rattle.meaning.specs.Fields.{Field, fields, complete}
 use Rattle.meaning.specs.Site.{headOf, headGood, laterOf, stateCount, layoutGood, sweepCount, siteOf, stateAt}
@@ -19,7 +19,9 @@ firstIs p (f ∷ fs) = p f
 
 -- the head's values in range, where they start at the place at
 unfoldable pub headValues : List ℕ → ℕ → Bool
-headValues file at = within 1 horizonLimit (u16At file at) && within 1 cellLimit (getD file (at + 2) 0) && within 1 stateLimit (u16At file (at + 3))
+headValues file at =
+    within 1 horizonLimit (u16At file at) && within 1 cellLimit (getD file (at + 2) 0) && within 1 stateLimit (u16At file (at + 3))
+    && leb (getD file (at + 5) 0) marginLimit
 
 -- a motion's value may have n bytes
 unfoldable pub motionLength : ℕ → Bool
@@ -47,6 +49,7 @@ pub record HeadIs (file : List ℕ) (head : Head) : Type 0 where
   pub horizon : head .horizon ≡ siteOf file .horizon
   pub cells : head .cells ≡ siteOf file .cells
   pub states : head .states ≡ stateCount file
+  pub margin : head .margin ≡ siteOf file .margin
   pub start : head .start ≡ statePlace 0
 
 -- the value of the state i starts at the place r: its cell, then its speed

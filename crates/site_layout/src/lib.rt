@@ -11,12 +11,14 @@ ghost use Rattle.meaning.specs.Site.{headOf, headGood, isState, isMotion, sweep
 ghost use Rattle.fields.specs.Places.{fieldsAt};
 ghost use Rattle.site_layout.specs.Laid.{firstIs, headValues, motionLength, HeadIs};
 
-// The most that H, C and S may be, and the most motions and sweeps of a motion.
+// The most that H, C, S and the margin may be, and the most motions and sweeps of a motion.
 const HORIZON_LIMIT: usize = 1000;
 
 pub const CELL_LIMIT: usize = 255;
 
 pub const STATE_LIMIT: usize = 256;
+
+const MARGIN_LIMIT: usize = 20;
 
 pub const MOTION_LIMIT: usize = 2000;
 
@@ -30,7 +32,7 @@ const STATE_TAG: u8 = 2;
 const MOTION_TAG: u8 = 3;
 
 // Bytes of the values; of a motion's, those before its sweeps.
-pub const HEAD_SIZE: usize = 5;
+pub const HEAD_SIZE: usize = 6;
 
 pub const STATE_SIZE: usize = 2;
 
@@ -56,7 +58,10 @@ fn head_values(file: &[u8], at: usize) -> bool
     if !in_range(fields::byte_at(file, at + 2), 1, CELL_LIMIT) {
         return false;
     }
-    in_range(fields::number_at(file, at + 3), 1, STATE_LIMIT)
+    if !in_range(fields::number_at(file, at + 3), 1, STATE_LIMIT) {
+        return false;
+    }
+    fields::byte_at(file, at + 5) <= MARGIN_LIMIT
 }
 
 // The first field is a head with values in range.
@@ -174,11 +179,12 @@ pub fn layout_good(file: &[u8], start: usize, count: usize) -> bool
     motions_laid(file, at)
 }
 
-// What a good head says: H, C, S, and where the states start.
+// What a good head says: H, C, S, the margin, and where the states start.
 pub struct Head {
     pub horizon: usize,
     pub cells: usize,
     pub states: usize,
+    pub margin: usize,
     pub start: usize,
 }
 
@@ -192,6 +198,7 @@ pub fn read_head(file: &[u8]) -> Head
         horizon: fields::number_at(file, at),
         cells: fields::byte_at(file, at + 2),
         states: fields::number_at(file, at + 3),
+        margin: fields::byte_at(file, at + 5),
         start: h.next,
     }
 }

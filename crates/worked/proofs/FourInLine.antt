@@ -6,23 +6,23 @@ use Rattle.meaning.specs.Runs.{meets}
 use Rattle.meaning.specs.Answers.{lowest, answer}
 use Rattle.meaning.specs.Fields.{split, fields, complete, listed}
 use Rattle.meaning.specs.Site.{sweepsOf, stateOf, motionOf, headOf, laterOf, stateCount, siteOf, headGood, isState, sweepCount, isMotion, motionsLaid, layoutGood, uses, handover, endsGood, sweepsGood, motionGood, siteRefusals, readSite}
-use Rattle.meaning.specs.Board.{sortOf, isTug, isClosure, isHolder, free, stands, clear, withEdition, nextEdition}
+use Rattle.meaning.specs.Board.{sortOf, isTug, isClosure, isHolder, clearFromTo, clearAround, free, closable, stands, clear, withEdition, nextEdition}
 use Rattle.meaning.specs.Plan.{allowed, walk, startFree, planEnd, canUnload, planPairs}
 use Rattle.meaning.specs.Reach.{byWait, byMotion, word, firstRow, withRow, rowsTo, trace, tracedRoute, routeIn, findRoute}
 use Rattle.meaning.specs.Light.{encode, lightOf, isLightHead, isWait, isMove, inLayout, isLight, decode}
 use Rattle.meaning.specs.Intervals.{begins, runEnd, intervalsFrom, intervals}
 use Rattle.meaning.specs.Calls.{bytesView, tripNamed, runNamed, lightNamed, lightValid, routeRefusals, lightRefusals, closeRefusals, withdrawRefusals, intervalRefusals, refusals, grantedLight, changed, acceptedDone, refusedDone, meant}
 use Rattle.meaning.specs.Day.{callOf, dayDone, linesFrom, dayLines, decimal}
-use Rattle.worked.specs.FourInLine.{called, fresh, closed, posted, lightFor, unloading, boardB, boardC, boardD, boardN, lightA, postedA, audited, boardDock, postedDwell, lentRoute, lentInterval, Starred, AtTheDock, Computed}
+use Rattle.worked.specs.FourInLine.{calledWith, fresh, closedWith, posted, lightFor, routedWith, behindA, intervalsWith, closingWith, auditedWith, boardUnknown, boardTouching, boardB, boardC, boardD, boardN, lightA, postedA, audited, boardDock, postedDwell, lentRoute, lentInterval, Starred, AtTheDock, Margins, Computed}
 
-pub all-cases : Starred × AtTheDock × Computed
+pub all-cases : Starred × AtTheDock × Margins × Computed
 unfolding every any all allBelow within meets lowest answer split fields complete listed
     sweepsOf stateOf motionOf headOf laterOf stateCount siteOf headGood isState sweepCount isMotion motionsLaid layoutGood uses handover endsGood sweepsGood motionGood siteRefusals readSite
-    sortOf isTug isClosure isHolder free stands clear withEdition nextEdition
+    sortOf isTug isClosure isHolder clearFromTo clearAround free closable stands clear withEdition nextEdition
     allowed walk startFree planEnd canUnload planPairs byWait byMotion word firstRow withRow rowsTo trace tracedRoute routeIn findRoute
     encode lightOf isLightHead isWait isMove inLayout isLight decode begins runEnd intervalsFrom intervals
     bytesView tripNamed runNamed lightNamed lightValid routeRefusals lightRefusals closeRefusals withdrawRefusals intervalRefusals refusals grantedLight changed acceptedDone refusedDone meant
-    called fresh closed posted lightFor unloading boardB boardC boardD boardN lightA postedA audited boardDock postedDwell lentRoute lentInterval callOf dayDone linesFrom dayLines decimal
+    calledWith fresh closedWith posted lightFor routedWith behindA intervalsWith closingWith auditedWith boardUnknown boardTouching boardB boardC boardD boardN lightA postedA audited boardDock postedDwell lentRoute lentInterval callOf dayDone linesFrom dayLines decimal
 all-cases = (
   record {
     size = refl;
@@ -83,6 +83,42 @@ all-cases = (
     back-3 = refl;
     back-4 = refl;
     day-dwell-1000 = refl;
+  },
+  record {
+    margin-20 = refl;
+    margin-21 = refl;
+    margin-255 = refl;
+    old-head = refl;
+    behind-0 = refl;
+    behind-1-early = refl;
+    behind-1 = refl;
+    behind-2-early = refl;
+    behind-2 = refl;
+    behind-4 = refl;
+    behind-5 = refl;
+    intervals-0 = refl;
+    intervals-1 = refl;
+    intervals-2 = refl;
+    intervals-8 = refl;
+    intervals-9 = refl;
+    N-1 = refl;
+    N-4 = refl;
+    N-8 = refl;
+    close-4 = refl;
+    close-5 = refl;
+    close-0 = refl;
+    close-5-12 = refl;
+    close-6-12 = refl;
+    touch = refl;
+    touch-held = refl;
+    touch-next = refl;
+    audit-5 = refl;
+    audit-4 = refl;
+    unknown-audit = refl;
+    unknown-beside = refl;
+    unknown-there = refl;
+    dock-2 = refl;
+    dock-3 = refl;
   },
   record {
     A-earliest-only = refl;

@@ -1,10 +1,10 @@
--- The worked site 'Four in line' and its cases, as one statement about the definitions, from the 100 bytes of its site file.
+-- The worked site 'Four in line' and its cases, as one statement about the definitions, from the 101 bytes of its site file.
 -- Assumes nothing.
-use Prim.Native.Nat.{ℕ, zero, suc, _/_, _%_}
+use Prim.Native.Nat.{ℕ, zero, suc, _+_, _*_, _/_, _%_}
 use mathlib.Core.Path.{_≡_}
 use mathlib.Core.Option.{Option, none, some}
 use mathlib.Core.List.{List, [], _∷_, _++_}
-use lib.ListN.{length, take, replicate}
+use lib.ListN.{length, take, drop, replicate, set}
 use Rattle.meaning.specs.Answers.{Answer, accepted, refused}
 use Rattle.meaning.specs.Fields.{Field, fieldsBytes}
 use Rattle.meaning.specs.Site.{siteOf, readSite}
@@ -17,9 +17,10 @@ use Rattle.meaning.specs.Demands.{lightOut}
 use Rattle.meaning.specs.Day.{Line, dayLines, dayText}
 use Rattle.meaning.specs.EarliestOnly.{earliestNumber}
 
-abbrev pub siteFile : List ℕ
-siteFile =
-    1 ∷ 0 ∷ 5 ∷ 0 ∷ 12 ∷ 4 ∷ 0 ∷ 5
+-- the site with a margin: the last byte of its head
+abbrev pub siteWith : ℕ → List ℕ
+siteWith m =
+    1 ∷ 0 ∷ 6 ∷ 0 ∷ 12 ∷ 4 ∷ 0 ∷ 5 ∷ m
     ∷ 2 ∷ 0 ∷ 2 ∷ 0 ∷ 0
     ∷ 2 ∷ 0 ∷ 2 ∷ 1 ∷ 1
     ∷ 2 ∷ 0 ∷ 2 ∷ 1 ∷ 0
@@ -32,10 +33,17 @@ siteFile =
     ∷ 3 ∷ 0 ∷ 11 ∷ 0 ∷ 2 ∷ 0 ∷ 3 ∷ 2 ∷ 1 ∷ 0 ∷ 1 ∷ 2 ∷ 1 ∷ 2
     ∷ []
 
--- ---- calls on a board, with areas that just fit and are not zero
+-- the cases of 'Four in line' have margin 0
+abbrev pub siteFile : List ℕ
+siteFile = siteWith 0
 
-unfoldable pub called : List ℕ → PublicCall → Done
-called board q = meant siteFile (lends board (replicate 78 238) (replicate 65 9)) q
+-- ---- calls on a board, with areas that just fit and are not zero; with a margin, and without
+
+unfoldable pub calledWith : ℕ → List ℕ → PublicCall → Done
+calledWith m board q = meant (siteWith m) (lends board (replicate 78 238) (replicate 65 9)) q
+
+abbrev pub called : List ℕ → PublicCall → Done
+called board q = calledWith 0 board q
 
 abbrev pub boardOf : Done → List ℕ
 boardOf d = d .lent .board
@@ -45,8 +53,11 @@ unfoldable pub fresh : List ℕ
 fresh = boardOf (called (replicate 56 9) opening)
 
 -- one more closure, one more light
-unfoldable pub closed : ℕ → ℕ → ℕ → ℕ → List ℕ → List ℕ
-closed h c first last board = boardOf (called board (listed (close h c first last)))
+unfoldable pub closedWith : ℕ → ℕ → ℕ → ℕ → ℕ → List ℕ → List ℕ
+closedWith m h c first last board = boardOf (calledWith m board (listed (close h c first last)))
+
+abbrev pub closed : ℕ → ℕ → ℕ → ℕ → List ℕ → List ℕ
+closed h c first last board = closedWith 0 h c first last board
 
 unfoldable pub posted : List ℕ → List ℕ → List ℕ
 posted light board = boardOf (called board (listed (post light)))
@@ -55,7 +66,7 @@ posted light board = boardOf (called board (listed (post light)))
 unfoldable pub lightFor : List ℕ → Node → ℕ → ℕ → List ℕ
 lightFor board a goal dwell = lightOut (called board (listed (route 7 a goal dwell)))
 
--- tug 7's route with a dwell: the steps and the arrival of the light that it writes, or its number
+-- a route with a dwell: the steps and the arrival of the light that it writes, or its number
 abbrev pub found : List Step → ℕ → Answer Route
 found ps t = accepted (record { steps = ps; arrival = t })
 
@@ -64,8 +75,13 @@ says zero none = refused 8
 says zero (some l) = found (l .steps) (l .arrival)
 says (suc n) o = refused (suc n)
 
-unfoldable pub unloading : List ℕ → Node → ℕ → ℕ → Answer Route
-unloading board a goal dwell = says (called board (listed (route 7 a goal dwell)) .number) (decode (lightFor board a goal dwell))
+unfoldable pub routedWith : ℕ → ℕ → List ℕ → Node → ℕ → ℕ → Answer Route
+routedWith m tug board a goal dwell =
+    says (calledWith m board (listed (route tug a goal dwell)) .number) (decode (lightOut (calledWith m board (listed (route tug a goal dwell)))))
+
+-- tug 7's
+abbrev pub unloading : List ℕ → Node → ℕ → ℕ → Answer Route
+unloading board a goal dwell = routedWith 0 7 board a goal dwell
 
 -- the cases of 'Four in line' have dwell 0
 abbrev pub routed : List ℕ → Node → ℕ → Answer Route
@@ -146,6 +162,46 @@ lentRoute out words = meant siteFile (lends fresh (replicate out 238) (replicate
 unfoldable pub lentInterval : ℕ → Done
 lentInterval out = meant siteFile (lends boardN (replicate out 238) []) (interval 1)
 
+-- ---- with a margin
+
+-- tug 8's route from state 0 at a tick to state 4, behind A
+unfoldable pub behindA : ℕ → ℕ → Answer Route
+behindA m tick = routedWith m 8 postedA (node 0 tick) 4 0
+
+-- the ticks of cell 1's safe intervals, as the call writes them
+abbrev pub numbersIn : List ℕ → List ℕ → List ℕ
+numbersIn [] out = []
+numbersIn (n ∷ values) out = take (2 * n) out
+
+unfoldable pub intervalsWith : ℕ → List ℕ → List ℕ
+intervalsWith m board = let d : Done = calledWith m board (interval 1) in numbersIn (d .values) (d .lent .out)
+
+-- the numbers of a closing, and of the audit of A's light made from edition 1
+unfoldable pub closingWith : ℕ → List ℕ → ℕ → ℕ → ℕ → ℕ → ℕ
+closingWith m board h c first last = calledWith m board (listed (close h c first last)) .number
+
+abbrev pub lightOfOne : List ℕ
+lightOfOne = set (lightOfDwell 0 0) 6 1
+
+unfoldable pub auditedWith : ℕ → List ℕ → List ℕ → ℕ
+auditedWith m board light = calledWith m board (listed (audit light)) .number
+
+-- the number of a reading, and the site with a head of 5 bytes, as heads were before there was a margin
+abbrev pub numberOf : {A : Type 0} → Answer A → ℕ
+numberOf (accepted a) = 0
+numberOf (refused n) = n
+
+abbrev pub oldSite : List ℕ
+oldSite = (1 ∷ 0 ∷ 5 ∷ 0 ∷ 12 ∷ 4 ∷ 0 ∷ 5 ∷ []) ++ drop 9 siteFile
+
+-- a byte 255 in cell 1 at tick 4: place 4 + 1 * 13 + 4
+unfoldable pub boardUnknown : List ℕ
+boardUnknown = set fresh 21 255
+
+-- cell 3 closed at 0-5, and beside it at 6-8
+unfoldable pub boardTouching : List ℕ
+boardTouching = closedWith 20 201 3 6 8 (closedWith 20 200 3 0 5 fresh)
+
 -- O: the site with one more motion, 0 to 2 in one tick, that lets go of cell 0 as it takes cell 1
 abbrev pub siteFileO : List ℕ
 siteFileO = siteFile ++ fieldsBytes (record { tag = 3; value = 0 ∷ 0 ∷ 0 ∷ 2 ∷ 1 ∷ 0 ∷ 0 ∷ 0 ∷ 1 ∷ 1 ∷ 1 ∷ [] } ∷ [])
@@ -176,7 +232,7 @@ script = fieldsBytes (closing ∷ routing ∷ posting ∷ [])
 -- two cells with the ticks 0 to 6, a standing state in each, and a motion of one tick each way
 abbrev pub twoCells : List ℕ
 twoCells =
-    1 ∷ 0 ∷ 5 ∷ 0 ∷ 6 ∷ 2 ∷ 0 ∷ 2
+    1 ∷ 0 ∷ 6 ∷ 0 ∷ 6 ∷ 2 ∷ 0 ∷ 2 ∷ 0
     ∷ 2 ∷ 0 ∷ 2 ∷ 0 ∷ 0
     ∷ 2 ∷ 0 ∷ 2 ∷ 1 ∷ 0
     ∷ 3 ∷ 0 ∷ 11 ∷ 0 ∷ 0 ∷ 0 ∷ 1 ∷ 1 ∷ 0 ∷ 0 ∷ 1 ∷ 1 ∷ 1 ∷ 1
@@ -192,7 +248,7 @@ backFor dwell =
 abbrev pub bareSite : ℕ → ℕ → ℕ → List ℕ
 bareSite horizon cells states =
     fieldsBytes (
-    record { tag = 1; value = horizon / 256 ∷ horizon % 256 ∷ cells ∷ states / 256 ∷ states % 256 ∷ [] }
+    record { tag = 1; value = horizon / 256 ∷ horizon % 256 ∷ cells ∷ states / 256 ∷ states % 256 ∷ 0 ∷ [] }
     ∷ replicate states (record { tag = 2; value = 0 ∷ 0 ∷ [] }))
 
 -- a route of tug 7 from state 0 at the tick to state 0
@@ -209,7 +265,7 @@ line n e t = record { number = n; edition = e; arrival = t }
 -- ---- the cases; start 0, tick 0 and goal 4 unless they say otherwise
 
 pub record Starred : Type 0 where
-  pub size : length siteFile ≡ 100
+  pub size : length siteFile ≡ 101
   pub A : routed fresh (node 0 0) 4 ≡ found (move 0 ∷ move 1 ∷ move 2 ∷ []) 5
   pub B : routed boardB (node 0 0) 4 ≡ found (wait 5 ∷ move 0 ∷ move 1 ∷ move 2 ∷ []) 10
   pub B-light : lightFor boardB (node 0 0) 4 0 ≡ lightB
@@ -282,6 +338,51 @@ pub record AtTheDock : Type 0 where
   -- the longest dwell, in the one cell of a hall of 1,001 ticks
   pub day-dwell-1000 : dayLines (bareSite 1000 1 1) (stayingFor 0 1000) ≡ line 0 0 0 ∷ []
 
+-- air between tugs (request 5): A holds cell 0 at 0-1, cell 1 at 1-3, cell 2 at 3-4 and cell 3 at 4-5
+pub record Margins : Type 0 where
+  -- the head's last byte
+  pub margin-20 : numberOf (readSite (siteWith 20)) ≡ 0
+  pub margin-21 : numberOf (readSite (siteWith 21)) ≡ 3
+  pub margin-255 : numberOf (readSite (siteWith 255)) ≡ 3
+  pub old-head : numberOf (readSite oldSite) ≡ 3
+  -- a tug that follows A through the same cells
+  pub behind-0 : behindA 0 2 ≡ found (wait 1 ∷ move 0 ∷ move 1 ∷ move 2 ∷ []) 8
+  pub behind-1-early : behindA 1 2 ≡ refused 18
+  pub behind-1 : behindA 1 3 ≡ found (wait 1 ∷ move 0 ∷ move 1 ∷ move 2 ∷ []) 9
+  pub behind-2-early : behindA 2 3 ≡ refused 18
+  pub behind-2 : behindA 2 4 ≡ found (wait 1 ∷ move 0 ∷ move 1 ∷ move 2 ∷ []) 10
+  pub behind-4 : behindA 4 6 ≡ found (wait 1 ∷ move 0 ∷ move 1 ∷ move 2 ∷ []) 12
+  pub behind-5 : behindA 5 7 ≡ refused 18
+  -- the safe intervals of cell 1 behind A, and beside a closure at 4: tugs keep away from closures as from tugs
+  pub intervals-0 : intervalsWith 0 postedA ≡ 0 ∷ 0 ∷ 4 ∷ 12 ∷ []
+  pub intervals-1 : intervalsWith 1 postedA ≡ 5 ∷ 12 ∷ []
+  pub intervals-2 : intervalsWith 2 postedA ≡ 6 ∷ 12 ∷ []
+  pub intervals-8 : intervalsWith 8 postedA ≡ 12 ∷ 12 ∷ []
+  pub intervals-9 : intervalsWith 9 postedA ≡ []
+  pub N-1 : intervalsWith 1 boardN ≡ 0 ∷ 2 ∷ 6 ∷ 12 ∷ []
+  pub N-4 : intervalsWith 4 boardN ≡ 9 ∷ 12 ∷ []
+  pub N-8 : intervalsWith 8 boardN ≡ []
+  -- closures keep away from tugs
+  pub close-4 : closingWith 1 postedA 200 1 4 4 ≡ 17
+  pub close-5 : closingWith 1 postedA 200 1 5 5 ≡ 0
+  pub close-0 : closingWith 1 postedA 200 1 0 0 ≡ 17
+  pub close-5-12 : closingWith 2 postedA 200 1 5 12 ≡ 17
+  pub close-6-12 : closingWith 2 postedA 200 1 6 12 ≡ 0
+  -- and may touch each other
+  pub touch : closingWith 20 (closedWith 20 200 3 0 5 fresh) 201 3 6 8 ≡ 0
+  pub touch-held : closingWith 20 boardTouching 202 3 8 9 ≡ 17
+  pub touch-next : closingWith 20 boardTouching 202 3 9 9 ≡ 0
+  -- A audited where cell 1 is closed after it
+  pub audit-5 : auditedWith 1 (closedWith 1 200 1 5 5 fresh) lightOfOne ≡ 0
+  pub audit-4 : auditedWith 1 (closedWith 1 200 1 4 4 fresh) lightOfOne ≡ 17
+  -- a byte held by nobody known keeps tugs away, and closures only where it is
+  pub unknown-audit : auditedWith 1 boardUnknown lightA ≡ 17
+  pub unknown-beside : closingWith 1 boardUnknown 200 1 5 5 ≡ 0
+  pub unknown-there : closingWith 1 boardUnknown 200 1 3 4 ≡ 17
+  -- the dock is closed at 9: a tug that unloads keeps away from it
+  pub dock-2 : routedWith 1 7 (closedWith 1 200 3 9 9 fresh) (node 0 0) 4 2 ≡ found (move 0 ∷ move 1 ∷ move 2 ∷ []) 5
+  pub dock-3 : routedWith 1 7 (closedWith 1 200 3 9 9 fresh) (node 0 0) 4 3 ≡ refused 18
+
 -- the cases without a star, and the day program's example
 pub record Computed : Type 0 where
   -- an earliest-only search does find the way of case A
@@ -319,7 +420,7 @@ pub record Computed : Type 0 where
   -- an empty script prints one line, unless the open is refused; one or two bytes are a cut field, and a field has no line more
   pub day-quiet : dayLines siteFile [] ≡ line 0 0 0 ∷ []
   pub day-quiet-refused : dayLines siteFileO [] ≡ line 6 0 0 ∷ []
-  pub day-quiet-cut-site : dayLines (take 99 siteFile) [] ≡ line 2 0 0 ∷ []
+  pub day-quiet-cut-site : dayLines (take 100 siteFile) [] ≡ line 2 0 0 ∷ []
   pub day-cut-1 : dayLines siteFile (33 ∷ []) ≡ line 99 0 0 ∷ []
   pub day-cut-2 : dayLines siteFile (33 ∷ 0 ∷ []) ≡ line 99 0 0 ∷ []
   pub day-close : dayLines siteFile (fieldsBytes (closing ∷ [])) ≡ line 0 1 0 ∷ []

@@ -4,14 +4,14 @@
 //! Each dwell has tables of its own, over sites and boards from the same seed; the first one of dwell 0 is as it was before there was a dwell.
 //! Then come the sites on which a search takes long (`worst`). Last comes the time of the site's check alone, which every call on a site begins with.
 //!
-//! `./bench`; ROUTES sets how many routes for each table (1,000; 0 for none), SITES how many sites for the check (the same)
-//! and SEED the seed (1).
+//! `./bench`; ROUTES sets how many routes for each table (1,000; 0 for none), SITES how many sites for the check (the same), SEED the seed (1) and
+//! MARGIN the margin of all sites in ticks (0). With margin 0 sites and boards are as they were before there was one.
 //!
 //! HOW, which is printed first, says how sites and boards are made.
 
 use dispatch_tests::desk::{self, Answer};
 use dispatch_tests::gen::{motion_between, Rng};
-use dispatch_tests::literal::{encode, Motion, Site, State, Sweep};
+use dispatch_tests::literal::{encode, Motion, Site, State, Sweep, MAX_MARGIN};
 use dispatch_tests::{plain, pull, worst};
 use std::hint::black_box;
 use std::time::Instant;
@@ -24,7 +24,7 @@ Sites:
 - long: 200 cells, as random, with span 10 to 120 and 1 to 16 sweeps.
 - corridor: states in a row, standing and rolling in turn; motions to the next few states either way, span 2 to 9.
 Boards: held in short runs (1 to 4 ticks), in long runs (5 to 60 ticks), both up to nine in a hundred pairs, or in
-few runs (one in a hundred).
+few runs (one in a hundred). With a margin there are so many fewer runs that about as many pairs are not free.
 Routes of at least 400 ticks start at a tick below 80. Where the goal is nearer, its cell is held from tick 0 up to a
 tick of 400 to 900. With a dwell, in half of these the cell is held before that tick only here and there, so that tugs
 reach the goal but can't unload.
@@ -67,7 +67,7 @@ fn grid(rng: &mut Rng) -> Site {
         motions.swap(i, rng.below(i + 1));
     }
     motions.truncate(MOTIONS);
-    Site { h: H, c: 100, states, motions }
+    Site { h: H, c: 100, margin: 0, states, motions }
 }
 
 fn scattered(rng: &mut Rng, c: usize, span: (usize, usize), sweeps: usize) -> Site {
@@ -80,7 +80,7 @@ fn scattered(rng: &mut Rng, c: usize, span: (usize, usize), sweeps: usize) -> Si
             motion_between(rng, c, &states, from, to, d, n)
         })
         .collect();
-    Site { h: H, c, states, motions }
+    Site { h: H, c, margin: 0, states, motions }
 }
 
 /// Each motion leaves its cell offset by offset and takes the next one so; both are used at one offset.
@@ -97,7 +97,7 @@ fn adjoining(rng: &mut Rng) -> Site {
             Motion { from: from as u16, to: to as u16, d: SPAN, sweeps: leaves.chain(takes).rev().collect() }
         })
         .collect();
-    Site { h: H, c: STATES, states, motions }
+    Site { h: H, c: STATES, margin: 0, states, motions }
 }
 
 fn corridor(rng: &mut Rng) -> Site {
@@ -111,14 +111,16 @@ fn corridor(rng: &mut Rng) -> Site {
             motion_between(rng, 100, &states, from, to, d, n)
         })
         .collect();
-    Site { h: H, c: 100, states, motions }
+    Site { h: H, c: 100, margin: 0, states, motions }
 }
 
 fn board(rng: &mut Rng, site: &Site, percent: usize, run: (usize, usize)) -> Vec<u8> {
     let mut board = vec![0; site.board_len()];
     let pairs = site.c * (H + 1);
+    // Of what a run of the usual length keeps tugs from, so much is held, and the rest is its margin.
+    let (held_part, all_parts) = (run.0 + run.1, run.0 + run.1 + 4 * site.margin);
     let mut held = 0;
-    while held < pairs * percent / 100 {
+    while held < pairs * percent * held_part / (100 * all_parts) {
         let (cell, first, len) = (rng.below(site.c), rng.below(H + 1), rng.range(run.0, run.1));
         for byte in board[4 + cell * (H + 1)..][first..(first + len).min(H + 1)].iter_mut().filter(|byte| **byte == 0) {
             *byte = rng.range(100, 254) as u8;
@@ -216,8 +218,8 @@ struct Hall {
 
 impl Hall {
     /// A kind of site, and one of the three kinds of boards.
-    fn new(rng: &mut Rng, kind: usize, held: usize) -> Hall {
-        let site = site(rng, kind);
+    fn new(rng: &mut Rng, kind: usize, held: usize, margin: usize) -> Hall {
+        let site = Site { margin, ..site(rng, kind) };
         let (percent, run) = [(9, (1, 4)), (9, (5, 60)), (1, (5, 60))][held];
         let board = board(rng, &site, percent, run);
         let file = encode(&site);
@@ -228,6 +230,11 @@ impl Hall {
     fn row(&self, state: usize) -> std::ops::Range<usize> {
         let first = 4 + self.site.cell(state) * (H + 1);
         first..first + H + 1
+    }
+
+    /// Whether a state's cell is free for a tug at a tick.
+    fn free(&self, board: &[u8], state: usize, tick: usize) -> bool {
+        board[self.row(state)][self.site.around(tick)].iter().all(|&byte| byte == 0)
     }
 
     /// A start and a goal. In a corridor they are at its ends, or near each other.
@@ -293,7 +300,7 @@ impl Hall {
             Wanted::ShutIn => self.shut_in(rng, &mut board, start, tick),
         }
         let held = board[4..].iter().filter(|&&byte| byte != 0).count();
-        if held * 10 > board.len() - 4 || board[self.row(start)][tick] != 0 {
+        if held * 10 > board.len() - 4 || !self.free(&board, start, tick) {
             return None;
         }
         let case = self.case(board, start, tick, goal, dwell);
@@ -302,9 +309,9 @@ impl Hall {
 }
 
 /// A case on a kind of site and of board.
-fn case(rng: &mut Rng, kind: usize, held: usize, wanted: Wanted, dwell: u16, areas: &mut Areas) -> Case {
+fn case(rng: &mut Rng, kind: usize, held: usize, wanted: Wanted, dwell: u16, margin: usize, areas: &mut Areas) -> Case {
     loop {
-        let hall = Hall::new(rng, kind, held);
+        let hall = Hall::new(rng, kind, held, margin);
         for _ in 0..20 {
             if let Some(case) = hall.attempt(rng, wanted, dwell, areas) {
                 return case;
@@ -313,8 +320,9 @@ fn case(rng: &mut Rng, kind: usize, held: usize, wanted: Wanted, dwell: u16, are
     }
 }
 
-fn worst_case(rng: &mut Rng, kind: usize) -> Case {
-    let (site, board) = worst::case(rng, kind);
+fn worst_case(rng: &mut Rng, kind: usize, margin: usize) -> Case {
+    let (mut site, board) = worst::case(rng, kind);
+    site.margin = margin;
     Case { site: encode(&site), board, start: 0, tick: 0, goal: site.states.len() as u16 - 1, dwell: 0 }
 }
 
@@ -389,12 +397,12 @@ fn names(ways: [&str; 3]) -> Vec<String> {
 }
 
 /// The tables of routes that are granted, of those that are refused, each for every dwell, and of the worst sites.
-fn measure_routes(routes: usize, seed: u64) {
+fn measure_routes(routes: usize, seed: u64, margin: usize) {
     let mut areas = [(); 3].map(|()| Areas::new(STATES));
     for (title, wanted) in [("at least 400 ticks", Wanted::Far), ("below 100 ticks", Wanted::Near)] {
         for dwell in DWELLS {
             let mut rng = Rng::new(seed);
-            let case = |kind, areas: &mut Areas| case(&mut rng, kind / 3, kind % 3, wanted, dwell, areas);
+            let case = |kind, areas: &mut Areas| case(&mut rng, kind / 3, kind % 3, wanted, dwell, margin, areas);
             measure(&format!("{title}, dwell {dwell}"), &names(BOARDS), routes, &mut areas, case, true);
         }
     }
@@ -402,13 +410,13 @@ fn measure_routes(routes: usize, seed: u64) {
         let mut rng = Rng::new(seed);
         let case = |kind, areas: &mut Areas| {
             let held = rng.below(BOARDS.len());
-            case(&mut rng, kind / 3, held, [Wanted::Late, Wanted::GoalHeld, Wanted::ShutIn][kind % 3], dwell, areas)
+            case(&mut rng, kind / 3, held, [Wanted::Late, Wanted::GoalHeld, Wanted::ShutIn][kind % 3], dwell, margin, areas)
         };
         measure(&format!("refused with 18, dwell {dwell}"), &names(WHYS), routes, &mut areas, case, true);
     }
     let mut rng = Rng::new(seed);
     let mut areas = [(); 3].map(|()| Areas::new(256));
-    measure("worst sites", &worst::NAMES.map(str::to_string), routes, &mut areas, |kind, _| worst_case(&mut rng, kind), false);
+    measure("worst sites", &worst::NAMES.map(str::to_string), routes, &mut areas, |kind, _| worst_case(&mut rng, kind, margin), false);
 }
 
 type Open = fn(&[u8], &mut [u8]) -> Answer;
@@ -444,9 +452,11 @@ fn measure_checks(sites: usize, seed: u64) {
 
 fn main() {
     let (routes, sites, seed) = (setting("ROUTES", 1_000) as usize, setting("SITES", 1_000) as usize, setting("SEED", 1));
-    println!("{HOW}\n\n{routes} routes for each table, {sites} sites, seed {seed}; microseconds for the whole call, checks and zeroed words included, median");
+    let margin = setting("MARGIN", 0) as usize;
+    assert!(margin <= MAX_MARGIN, "MARGIN is above {MAX_MARGIN}");
+    println!("{HOW}\n\n{routes} routes for each table, {sites} sites, seed {seed}, margin {margin}; microseconds for the whole call, checks and zeroed words included, median");
     if routes > 0 {
-        measure_routes(routes, seed);
+        measure_routes(routes, seed, margin);
     }
     if sites > 0 {
         measure_checks(sites, seed);

@@ -13,16 +13,16 @@ use Rattle.board_intervals.proofs.run_end.Statement.{statement}
 use Rattle.board_intervals.proofs.run_end.Tie as tie
 
 abbrev Inv-loop : tie.InvT-loop
-Inv-loop board horizon cell first t₀ t =
+Inv-loop board horizon margin cell first t₀ t =
     (t ≤ horizon)
-    × ((site : Site) → site .horizon ≡ horizon → cell < site .cells
+    × ((site : Site) → site .horizon ≡ horizon → site .margin ≡ margin → cell < site .cells
     → runEnd (free site board cell) t (horizon - t) ≡ runEnd (free site board cell) first (horizon - first))
 
 abbrev μ-loop : tie.MeasureT-loop
-μ-loop board horizon cell first t₀ t = horizon - t
+μ-loop board horizon margin cell first t₀ t = horizon - t
 
 loop-holds : tie.Need-loop-holds Inv-loop μ-loop
-loop-holds c = (c .before .pre .in-time, λ site same inside. refl)
+loop-holds c = (c .before .pre .in-time, λ site same spaced inside. refl)
 
 add-loop : tie.Need-add-loop Inv-loop μ-loop
 add-loop c = omega arith
@@ -38,9 +38,9 @@ returns c =
     let at-loop = c .before .before .before in
     let a = at-loop .before .before .args in (
       omega arith,
-      λ site same inside.
-          let held = sym (c .before .is-free .ensures site same inside) ∙ not-true _ (c .if1 .taken) in
-          sym (end-stop (free site (a .board .now) (a .cell)) (at-loop .loop .t) (a .horizon) (omega arith) held) ∙ at-loop .loop .inv .1 site same inside,
+      λ site same spaced inside.
+          let held = sym (c .before .is-free .ensures site same spaced inside) ∙ not-true _ (c .if1 .taken) in
+          sym (end-stop (free site (a .board .now) (a .cell)) (at-loop .loop .t) (a .horizon) (omega arith) held) ∙ at-loop .loop .inv .1 site same spaced inside,
     )
 
 add-t : tie.Need-add-t Inv-loop μ-loop
@@ -54,17 +54,17 @@ loop-again c =
     let at-loop = c .before .before .before in
     let a = at-loop .before .before .args in (
       omega arith,
-      λ site same inside.
-          let is-free = sym (c .before .is-free .ensures site same inside) ∙ not-false _ (c .if1 .left) in
-          sym (end-next (free site (a .board .now) (a .cell)) (at-loop .loop .t) (a .horizon) (omega arith) is-free) ∙ at-loop .loop .inv .1 site same inside,
+      λ site same spaced inside.
+          let is-free = sym (c .before .is-free .ensures site same spaced inside) ∙ not-false _ (c .if1 .left) in
+          sym (end-next (free site (a .board .now) (a .cell)) (at-loop .loop .t) (a .horizon) (omega arith) is-free) ∙ at-loop .loop .inv .1 site same spaced inside,
     )
 
 returns-2 : tie.Need-returns-2 Inv-loop μ-loop
 returns-2 c =
     let a = c .before .before .before .args in (
       omega arith,
-      λ site same inside.
-          sym (end-last (free site (a .board .now) (a .cell)) (c .before .loop .t) (a .horizon) (omega arith)) ∙ c .before .loop .inv .1 site same inside,
+      λ site same spaced inside.
+          sym (end-last (free site (a .board .now) (a .cell)) (c .before .loop .t) (a .horizon) (omega arith)) ∙ c .before .loop .inv .1 site same spaced inside,
     )
 
 pub run-end-spec : {M : Type 1} → statement M

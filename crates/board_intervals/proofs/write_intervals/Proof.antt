@@ -14,26 +14,26 @@ use Rattle.board_intervals.proofs.write_intervals.Statement.{statement}
 use Rattle.board_intervals.proofs.write_intervals.Tie as tie
 
 abbrev Inv-loop : tie.InvT-loop
-Inv-loop board horizon cell out₀ k₀ t₀ out k t = Turn (free (plain horizon cell) board cell) horizon t k out₀ out
+Inv-loop board horizon margin cell out₀ k₀ t₀ out k t = Turn (free (plain horizon margin cell) board cell) horizon t k out₀ out
 
 abbrev μ-loop : tie.MeasureT-loop
-μ-loop board horizon cell out₀ k₀ t₀ out k t = suc horizon - t
+μ-loop board horizon margin cell out₀ k₀ t₀ out k t = suc horizon - t
 
 -- at the test of a turn: where the function began, a site that has the cell, and which ticks are free
 abbrev start : tie.After-begins-at Inv-loop μ-loop → tie.Start Inv-loop μ-loop
 start c = c .before .before .before .before .before
 
 abbrev site : tie.After-begins-at Inv-loop μ-loop → Site
-site c = plain (start c .args .horizon) (start c .args .cell)
+site c = plain (start c .args .horizon) (start c .args .margin) (start c .args .cell)
 
 abbrev frees : tie.After-begins-at Inv-loop μ-loop → ℕ → Bool
 frees c = free (site c) (start c .args .board .now) (start c .args .cell)
 
 begun : (c : tie.Then1 Inv-loop μ-loop) → begins (frees (c .before)) (c .before .before .before .loop .t) ≡ true
-begun c = sym (c .before .begins-at .ensures (site (c .before)) refl (omega arith)) ∙ c .if1 .taken
+begun c = sym (c .before .begins-at .ensures (site (c .before)) refl refl (omega arith)) ∙ c .if1 .taken
 
 not-begun : (c : tie.Else1 Inv-loop μ-loop) → begins (frees (c .before)) (c .before .before .before .loop .t) ≡ false
-not-begun c = sym (c .before .begins-at .ensures (site (c .before)) refl (omega arith)) ∙ c .if1 .left
+not-begun c = sym (c .before .begins-at .ensures (site (c .before)) refl refl (omega arith)) ∙ c .if1 .left
 
 loop-holds : tie.Need-loop-holds Inv-loop μ-loop
 loop-holds c = turn-start _ _ _
@@ -69,7 +69,7 @@ loop-again c =
     ⊎-elim
     (λ w.
     let b = begun (record { before = test; if1 = w .0 }) in
-    rw (w .7, w .6 ∙ w .3 .ensures) (turn-begins (frees test) _ _ _ _ _ inv _ le b (w .1 .ensures .1 (site test) refl (omega arith))))
+    rw (w .7, w .6 ∙ w .3 .ensures) (turn-begins (frees test) _ _ _ _ _ inv _ le b (w .1 .ensures .1 (site test) refl refl (omega arith))))
     (λ w. rw (w .2, w .1) (turn-skips (frees test) _ _ _ _ _ inv le (not-begun (record { before = test; if1 = w .0 }))))
     (c .if1 .came)
 
@@ -82,10 +82,10 @@ returns c =
     let a = c .before .before .before .before .args in
     let past = c .loop-test .left in
     let enough = c .before .before .before .before .pre .1 in (
-      λ site same inside.
-          rw (← free-same site (a .board .now) (a .horizon) (a .cell) same inside) (turn-count _ _ _ _ _ _ (loop .inv) past),
-      λ site same inside.
-          rw (← free-same site (a .board .now) (a .horizon) (a .cell) same inside) (turn-out _ _ _ _ _ _ (loop .inv) past enough),
+      λ site same spaced inside.
+          rw (← free-same site (a .board .now) (a .horizon) (a .margin) (a .cell) same spaced inside) (turn-count _ _ _ _ _ _ (loop .inv) past),
+      λ site same spaced inside.
+          rw (← free-same site (a .board .now) (a .horizon) (a .margin) (a .cell) same spaced inside) (turn-out _ _ _ _ _ _ (loop .inv) past enough),
     )
 
 pub write-intervals-spec : {M : Type 1} → statement M

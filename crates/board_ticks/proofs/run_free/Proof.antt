@@ -1,67 +1,53 @@
--- `board_ticks::run_free` meets its contract. The invariant: the ticks from t on answer as all do.
+-- `board_ticks::run_free` meets its contract.
 -- Assumes nothing.
-use Prim.Native.Nat.{suc, _<_, _-_}
-use mathlib.Core.Path.{_≡_, refl, sym, _∙_}
-use mathlib.Core.Bool.{true, false}
-use borrow.Author.Tests.{not-true, not-false}
-use Rattle.meaning.specs.Site.{Site}
-use Rattle.meaning.specs.Board.{free}
-use Rattle.meaning.specs.Plan.{freeFromTo}
-use Rattle.board_ticks.proofs.TickLaws.{free-turn, free-end}
-use borrow.Author.Needs.{needs}
 use native.Mathlib.Omega.{arith}
+use mathlib.Core.Path.{_∙_}
+use Rattle.meaning.specs.Board.{free}
+use Rattle.board_ticks.proofs.TickLaws.{none-free, clear-free-of}
+use borrow.Author.Needs.{needs}
 use Rattle.board_ticks.proofs.run_free.Statement.{statement}
 use Rattle.board_ticks.proofs.run_free.Tie as tie
 
-abbrev Inv-loop : tie.InvT-loop
-Inv-loop board horizon cell first last t₀ t =
-    (site : Site) → site .horizon ≡ horizon → cell < site .cells
-    → freeFromTo (free site board) cell t last ≡ freeFromTo (free site board) cell first last
+returns : tie.Need-returns
+returns c = λ site same spaced inside.
+    let a = c .before .before .args in
+    none-free (free site (a .board .now)) (a .cell) (a .first) (a .last) (c .if1 .taken)
 
-abbrev μ-loop : tie.MeasureT-loop
-μ-loop board horizon cell first last t₀ t = suc last - t
+add-row : tie.Need-add-row
+add-row c = omega arith
 
-loop-holds : tie.Need-loop-holds Inv-loop μ-loop
-loop-holds c = λ site same inside. refl
+mul-row : tie.Need-mul-row
+mul-row c = omega arith
 
-is-free-requires : tie.Need-is-free-requires Inv-loop μ-loop
-is-free-requires c κs = search needs
+add-row-2 : tie.Need-add-row-2
+add-row-2 c = omega arith
 
-returns : tie.Need-returns Inv-loop μ-loop
-returns c = λ site same inside.
-    let at-loop = c .before .before .before in
-    let a = at-loop .before .before .args in
-    let held = sym (c .before .is-free .ensures site same inside) ∙ not-true _ (c .if1 .taken) in
-    sym (free-turn (free site (a .board .now) (a .cell)) (at-loop .loop .t) (a .last) false (omega arith) held) ∙ at-loop .loop .inv site same inside
+earlier-requires : tie.Need-earlier-requires
+earlier-requires c κs = search needs
 
-add-t : tie.Need-add-t Inv-loop μ-loop
-add-t c = omega arith
+later-requires : tie.Need-later-requires
+later-requires c κs = c .before .before .before .pre .in-time
 
-loop-less : tie.Need-loop-less Inv-loop μ-loop
-loop-less c = omega arith
+clear-run-requires : tie.Need-clear-run-requires
+clear-run-requires c κs = omega (arith, c .later .ensures)
 
-loop-again : tie.Need-loop-again Inv-loop μ-loop
-loop-again c = λ site same inside.
-    let at-loop = c .before .before .before in
-    let a = at-loop .before .before .args in
-    let is-free = sym (c .before .is-free .ensures site same inside) ∙ not-false _ (c .if1 .left) in
-    sym (free-turn (free site (a .board .now) (a .cell)) (at-loop .loop .t) (a .last) true (omega arith) is-free) ∙ at-loop .loop .inv site same inside
-
-returns-2 : tie.Need-returns-2 Inv-loop μ-loop
-returns-2 c = λ site same inside.
-    let a = c .before .before .before .args in
-    sym (free-end (free site (a .board .now) (a .cell)) (c .before .loop .t) (a .last) (omega arith)) ∙ c .before .loop .inv site same inside
+returns-2 : tie.Need-returns-2
+returns-2 c = λ site same spaced inside.
+    let start = c .before .before .before .before .before in
+    let a = start .args in
+    c .clear-run .ensures
+    ∙ clear-free-of site (a .board .now) (a .horizon) (a .margin) (a .cell) (a .first) (a .last) _ _ same spaced inside (omega arith) (start .pre .in-time)
+    (c .before .before .earlier .ensures) (c .before .later .ensures)
 
 pub run-free-spec : {M : Type 1} → statement M
 run-free-spec =
     tie.close
     (tie.spec
-    Inv-loop
-    μ-loop
-    loop-holds
-    is-free-requires
     returns
-    add-t
-    loop-less
-    loop-again
+    add-row
+    mul-row
+    add-row-2
+    earlier-requires
+    later-requires
+    clear-run-requires
     returns-2)

@@ -7,13 +7,13 @@ use borrow.Author.Needs.{needs}
 use borrow.Author.Tests.{not-false}
 use Rattle.meaning.specs.Answers.{Refusal}
 use Rattle.meaning.specs.Site.{Site, siteOf}
-use Rattle.meaning.specs.Board.{free, runTo, allFree}
+use Rattle.meaning.specs.Board.{closable, runTo, allFree}
 use Rattle.meaning.specs.Calls.{runNamed, bytesView, closeRefusals}
 use Rattle.meaning.proofs.CheckLaws.{hit, miss, none-left}
 use Rattle.site.specs.Check.{sizesOf}
 use Rattle.board_ticks.proofs.TickLaws.{run-to-free}
 use Rattle.checks.proofs.Laws.{negated, Past}
-use Rattle.checks_board.proofs.Laws.{horizon-of, ready-row, named-cell, named-last}
+use Rattle.checks_board.proofs.Laws.{horizon-of, margin-of, ready-row, named-cell, named-last}
 use Rattle.checks_board.proofs.close_refusal.Statement.{statement}
 use Rattle.checks_board.proofs.close_refusal.Tie as tie
 
@@ -57,14 +57,14 @@ past-15 : (c : tie.Else4) (site : Site) → Has (start (at-9 (at-10 (at-12 c))))
 unfolding closeRefusals bytesView
 past-15 c site says m h = past-12 (at-12 c) site says m (miss _ _ _ _ (sym (c .before .at-last-edition .ensures) ∙ c .if4 .left) h)
 
--- the test that run_free made is that of the run's pairs
-run-is : (c : tie.After-run-free) (site : Site) → let s = start (at-9 (at-10 (at-12 (c .before)))) in
-    Has s site → c .run-free .result ≡ allFree (free site (s .args .board .now)) (runTo (s .args .cell) (s .args .first) (s .args .last))
+-- the test that run_closable made is that of the run's pairs
+run-is : (c : tie.After-run-closable) (site : Site) → let s = start (at-9 (at-10 (at-12 (c .before)))) in
+    Has s site → c .run-closable .result ≡ allFree (closable site (s .args .board .now)) (runTo (s .args .cell) (s .args .first) (s .args .last))
 run-is c site says =
     let at = at-10 (at-12 (c .before)) in
     let a = start (at-9 at) .args in
-    c .run-free .ensures site (sym (horizon-of site says)) (named-cell site (a .cell) (a .first) (a .last) (named at site says))
-    ∙ sym (run-to-free (free site (a .board .now)) (a .cell) (a .first) (a .last))
+    c .run-closable .ensures site (sym (horizon-of site says)) (sym (margin-of site says)) (named-cell site (a .cell) (a .first) (a .last) (named at site says))
+    ∙ sym (run-to-free (closable site (a .board .now)) (a .cell) (a .first) (a .last))
 
 -- ---- the needs
 
@@ -96,8 +96,8 @@ returns-4 : tie.Need-returns-4
 unfolding closeRefusals bytesView
 returns-4 c = λ site says. past-12 (c .before .before) site says _ (hit 15 _ _ (sym (c .before .at-last-edition .ensures) ∙ c .if4 .taken))
 
-run-free-requires : tie.Need-run-free-requires
-run-free-requires c κs =
+run-closable-requires : tie.Need-run-closable-requires
+run-closable-requires c κs =
     let at = at-10 (at-12 c) in
     let (file, ready) = start (at-9 at) .pre in
     let run = named at (siteOf file) (ready .sizes) in
@@ -123,6 +123,6 @@ close-refusal-spec =
     returns-3
     at-last-edition-requires
     returns-4
-    run-free-requires
+    run-closable-requires
     returns-5
     returns-6)

@@ -16,7 +16,7 @@ use Rattle.site.specs.declared.Check.the-variants.{Passed}
 use Rattle.checks.specs.Checks.{checkBy}
 use Rattle.checks.proofs.Laws.{refused-first, later-lowest}
 use Rattle.checks.proofs.Passed.{ready, ready-short}
-use Rattle.checks_board.proofs.Laws.{ready-horizon, ready-row, interval-cell, interval-room}
+use Rattle.checks_board.proofs.Laws.{ready-horizon, ready-margin, ready-row, interval-cell, interval-room}
 use Rattle.answers.proofs.Laws.{refused-out}
 use Rattle.desk_board.proofs.IntervalLaws.{refused-counted, interval-counted, interval-left, interval-few}
 use Rattle.desk_board.proofs.interval.Statement.{statement}
@@ -38,6 +38,9 @@ readied c = ready _ (onBoard _) opening _ (passes c)
 
 horizon-is : (c : tie.After-l) → siteOf (start c .args .file .now) .horizon ≡ c .l .given .0 .0 .horizon
 horizon-is c = ready-horizon (readied c)
+
+margin-is : (c : tie.After-l) → siteOf (start c .args .file .now) .margin ≡ c .l .given .0 .0 .margin
+margin-is c = ready-margin (readied c)
 
 -- the number is the call's
 abbrev number : tie.Start → ℕ
@@ -85,7 +88,7 @@ behind c = c .before .before
 counted : (c : tie.After-write-intervals) → let at = arm (behind c .before) in
     let a = start at .args in
     c .write-intervals .result ≡ length (intervals (free (siteOf (a .file .now)) (a .board .now) (a .cell)) (at .l .given .0 .0 .horizon))
-counted c = c .write-intervals .ensures .0 _ (horizon-is (arm (behind c .before))) (omega (arith, cell-in (behind c)))
+counted c = c .write-intervals .ensures .0 _ (horizon-is (arm (behind c .before))) (margin-is (arm (behind c .before))) (omega (arith, cell-in (behind c)))
 
 cast-count : tie.Need-cast-count
 cast-count c =
@@ -106,7 +109,7 @@ returns-2 c =
     let passed = none (behind worked) in
     let horizon = horizon-is (arm (behind worked .before)) in (
       interval-counted _ _ _ _ passed _ horizon _ (counted worked),
-      (interval-left _ _ _ _ passed _ horizon _ (worked .write-intervals .ensures .1 _ horizon (omega (arith, cell-in (behind worked)))), (refl, refl)),
+      (interval-left _ _ _ _ passed _ horizon _ (worked .write-intervals .ensures .1 _ horizon (margin-is (arm (behind worked .before))) (omega (arith, cell-in (behind worked)))), (refl, refl)),
     )
 
 returns-3 : tie.Need-returns-3

@@ -42,7 +42,7 @@ returns-2 c =
     let f = free s (a .board .now) in
     let cell = c .before .before .state-cell .ensures .0 in
     let inside = k .cell (a .a .state) (omega (arith, k .states)) in
-    c .is-free .ensures s (k .horizon) (omega (arith, inside, cell))
+    c .is-free .ensures s (k .horizon) (k .margin) (omega (arith, inside, cell))
     ∙ (λ i. f (cell i) (c .before .number .ensures i))
     ∙ sym (start-is s f (nodeOf (a .a)) _ (omega (arith, k .states)) (k .horizon) (sym (c .before .before .before .before .in-time .ensures) ∙ c .before .before .before .if2 .taken))
 

@@ -48,7 +48,7 @@ returns c =
     let inside = k .cell _ (at .pre .1 .state) in
     let cell = c .before .before .before .state-cell .ensures .0 in
     let last = c .before .before .before .before .before .before .after .ensures in
-    c .run-free .ensures s (k .horizon) (omega (arith, inside, cell))
+    c .run-free .ensures s (k .horizon) (k .margin) (omega (arith, inside, cell))
     ∙ (λ i. freeFromTo f (cell i) (c .before .before .number .ensures i) ((c .before .number2 .ensures ∙ last) i))
     ∙ sym (stay-is s f (nodeOf (a .a)) (a .n .0) _ _ last (k .horizon) (sym (c .before .before .before .before .before .in-time .ensures) ∙ c .before .before .before .before .if1 .taken))
 

@@ -26,7 +26,7 @@ returns c =
     let a = c .before .before .before .before .args in
     let p = c .before .before .before .before .pre in
     let ticks = c .before .swept-ticks .ensures in
-    c .run-free .ensures (siteOf (a .file .now)) (known (p .0) .horizon) (p .1 .known)
+    c .run-free .ensures (siteOf (a .file .now)) (known (p .0) .horizon) (known (p .0) .margin) (p .1 .known)
     ∙ ap₂ (λ (x y : ℕ). freeFromTo (free (siteOf (a .file .now)) (a .board .now)) (a .w .cell) x y) (ticks .0) (ticks .1)
 
 pub sweep-free-spec : {M : Type 1} → statement M

@@ -52,7 +52,7 @@ returns-2 c =
     let set = c .before .before .before in
     wait-tested (siteOf (a .file .now)) (free (siteOf (a .file .now)) (a .board .now)) (a .reached .now) (a .s) (a .t) _ _ _ (omega arith) (omega (arith, k .horizon))
     (sym speed ∙ sym (set .before .before .speed-of .ensures) ∙ set .before .if1 .left) is-cell (set .is-set .ensures) (c .before .before .if2 .taken)
-    (c .run-free .ensures (siteOf (a .file .now)) (k .horizon) (omega (arith, is-cell, k .cell (a .s) (omega (arith, k .states)))))
+    (c .run-free .ensures (siteOf (a .file .now)) (k .horizon) (k .margin) (omega (arith, is-cell, k .cell (a .s) (omega (arith, k .states)))))
 
 returns-3 : tie.Need-returns-3
 returns-3 c = wait-unset _ _ _ _ _ _ (c .before .is-set .ensures) (c .if2 .left)

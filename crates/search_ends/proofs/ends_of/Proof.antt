@@ -7,16 +7,16 @@ use Rattle.search_ends.proofs.ends_of.Statement.{statement}
 use Rattle.search_ends.proofs.ends_of.Tie as tie
 
 abbrev Inv-loop : tie.InvT-loop
-Inv-loop board horizon cell tick dwell ends₀ t₀ run₀ ends t run = Looked board horizon cell tick dwell ends t run
+Inv-loop board horizon margin cell tick dwell ends₀ t₀ run₀ ends t run = Looked board horizon margin cell tick dwell ends t run
 
 abbrev μ-loop : tie.MeasureT-loop
-μ-loop board horizon cell tick dwell ends₀ t₀ run₀ ends t run = t
+μ-loop board horizon margin cell tick dwell ends₀ t₀ run₀ ends t run = t
 
 add-t : tie.Need-add-t Inv-loop μ-loop
 add-t c = search needs
 
 loop-holds : tie.Need-loop-holds Inv-loop μ-loop
-loop-holds c = looked-none _ _ _ _ _ (omega arith)
+loop-holds c = looked-none _ _ _ _ _ _ (omega arith)
 
 sub-t : tie.Need-sub-t Inv-loop μ-loop
 sub-t c = search needs
@@ -36,10 +36,10 @@ loop-less c = search needs
 loop-again : tie.Need-loop-again Inv-loop μ-loop
 loop-again c =
     let l = c .before .before .before .loop in
-    looked-more _ _ _ _ _ _ _ _ _ _ (omega arith) (omega arith) (c .before .free-run .ensures .0) (c .before .free-run .ensures .1) (c .long-enough .ensures) (l .inv)
+    looked-more _ _ _ _ _ _ _ _ _ _ _ (omega arith) (omega arith) (c .before .free-run .ensures .0) (c .before .free-run .ensures .1) (c .long-enough .ensures) (l .inv)
 
 returns : tie.Need-returns Inv-loop μ-loop
-returns c = looked-all _ _ _ _ _ _ _ _ (omega arith) (c .before .loop .inv)
+returns c = looked-all _ _ _ _ _ _ _ _ _ (omega arith) (c .before .loop .inv)
 
 pub ends-of-spec : {M : Type 1} → statement M
 ends-of-spec =

@@ -13,10 +13,10 @@ add-result : tie.Need-add-result
 add-result c = search needs
 
 returns : tie.Need-returns
-returns c = (λ site same known. sym (rw (sym (c .before .is-free .ensures site same known) ∙ c .if1 .taken) refl), omega arith)
+returns c = (λ site same spaced known. sym (rw (sym (c .before .is-free .ensures site same spaced known) ∙ c .if1 .taken) refl), omega arith)
 
 returns-2 : tie.Need-returns-2
-returns-2 c = (λ site same known. sym (rw (sym (c .before .is-free .ensures site same known) ∙ c .if1 .left) refl), omega arith)
+returns-2 c = (λ site same spaced known. sym (rw (sym (c .before .is-free .ensures site same spaced known) ∙ c .if1 .left) refl), omega arith)
 
 pub free-run-spec : {M : Type 1} → statement M
 free-run-spec = tie.close (tie.spec is-free-requires add-result returns returns-2)

@@ -29,7 +29,7 @@ free-block-requires c κs =
     let start = c .before .before .before .before .before .before .before .before .before .before .before .before .before in
     let q = facts (start .args .file .now) (length (start .args .board .now)) (start .args .sizes) (start .pre .0 .0) in
     let s = start .pre .1 in
-    ((q .few, (q .short, q .board)), (omega (arith, mul-le-mul-right (start .args .sizes .cells) (s .some), s .tab, c .before .before .before .shift-rows .ensures .sized), start .pre .0 .1 .1))
+    ((q .few, (q .short, q .board)), (omega (arith, mul-le-mul-right (start .args .sizes .cells) (s .some), s .tab, c .before .before .before .shift-rows .ensures .sized), (start .pre .0 .1 .1, q .near)))
 
 fill-runs-requires : tie.Need-fill-runs-requires
 fill-runs-requires c κs =

@@ -1,11 +1,12 @@
 -- `site_layout::head_values` meets its contract.
 -- Assumes nothing.
-use Prim.Native.Nat.{_+_}
+use Prim.Native.Nat.{ℕ, _+_}
 use mathlib.Core.Path.{_≡_, sym, ap, _∙_}
 use mathlib.Core.Bool.{true, false}
 use borrow.Author.Tests.{not-true, not-false}
+use lib.Dec.{leb}
 use lib.ListN.{getD}
-use Rattle.meaning.specs.Limits.{horizonLimit, cellLimit, stateLimit}
+use Rattle.meaning.specs.Limits.{horizonLimit, cellLimit, stateLimit, marginLimit}
 use Rattle.meaning.specs.Basics.{within, u16At}
 use Rattle.site_layout.specs.Laid.{headValues}
 use borrow.Author.Needs.{needs}
@@ -16,11 +17,22 @@ use Rattle.site_layout.proofs.head_values.Tie as tie
 returns-3 : tie.Need-returns-3
 unfolding headValues
 returns-3 c =
-    let a = c .before .before .before .before .before .before .before .before .before .args in
+    let a = c .before .before .before .before .before .before .before .before .before .before .args in
     let f = a .file .now in
-    let h : within 1 horizonLimit (u16At f (a .at)) ≡ true = sym (ap (within 1 horizonLimit) (c .before .before .before .before .before .before .before .number-at .ensures .0)) ∙ sym (c .before .before .before .before .before .before .in-range .ensures) ∙ not-false _ (c .before .before .before .before .before .if1 .left) in
-    let k : within 1 cellLimit (getD f (a .at + 2) 0) ≡ true = sym (ap (within 1 cellLimit) (c .before .before .before .before .byte-at .ensures .0)) ∙ sym (c .before .before .before .in-range2 .ensures) ∙ not-false _ (c .before .before .if2 .left) in
-    simp (h, k) (c .in-range3 .ensures ∙ ap (within 1 stateLimit) (c .before .number-at2 .ensures .0))
+    let h : within 1 horizonLimit (u16At f (a .at)) ≡ true = sym (ap (within 1 horizonLimit) (c .before .before .before .before .before .before .before .before .number-at .ensures .0)) ∙ sym (c .before .before .before .before .before .before .before .in-range .ensures) ∙ not-false _ (c .before .before .before .before .before .before .if1 .left) in
+    let k : within 1 cellLimit (getD f (a .at + 2) 0) ≡ true = sym (ap (within 1 cellLimit) (c .before .before .before .before .before .byte-at .ensures .0)) ∙ sym (c .before .before .before .before .in-range2 .ensures) ∙ not-false _ (c .before .before .before .if2 .left) in
+    let s : within 1 stateLimit (u16At f (a .at + 3)) ≡ false = sym (ap (within 1 stateLimit) (c .before .before .number-at2 .ensures .0)) ∙ sym (c .before .in-range3 .ensures) ∙ not-true _ (c .if3 .taken) in
+    simp (h, k, s)
+
+returns-4 : tie.Need-returns-4
+unfolding headValues
+returns-4 c =
+    let a = c .before .before .before .before .before .before .before .before .before .before .before .args in
+    let f = a .file .now in
+    let h : within 1 horizonLimit (u16At f (a .at)) ≡ true = sym (ap (within 1 horizonLimit) (c .before .before .before .before .before .before .before .before .before .number-at .ensures .0)) ∙ sym (c .before .before .before .before .before .before .before .before .in-range .ensures) ∙ not-false _ (c .before .before .before .before .before .before .before .if1 .left) in
+    let k : within 1 cellLimit (getD f (a .at + 2) 0) ≡ true = sym (ap (within 1 cellLimit) (c .before .before .before .before .before .before .byte-at .ensures .0)) ∙ sym (c .before .before .before .before .before .in-range2 .ensures) ∙ not-false _ (c .before .before .before .before .if2 .left) in
+    let s : within 1 stateLimit (u16At f (a .at + 3)) ≡ true = sym (ap (within 1 stateLimit) (c .before .before .before .number-at2 .ensures .0)) ∙ sym (c .before .before .in-range3 .ensures) ∙ not-false _ (c .before .if3 .left) in
+    simp (h, k, s) (ap (λ (n : ℕ). leb n marginLimit) (c .byte-at2 .ensures .0))
 
 number-at-requires : tie.Need-number-at-requires
 number-at-requires c κs = search needs
@@ -63,6 +75,12 @@ number-at-requires-2 c κs = search needs
 in-range-requires-3 : tie.Need-in-range-requires-3
 in-range-requires-3 c κs = search needs
 
+add-byte-at-2 : tie.Need-add-byte-at-2
+add-byte-at-2 c = search needs
+
+byte-at-requires-2 : tie.Need-byte-at-requires-2
+byte-at-requires-2 c κs = search needs
+
 pub head-values-spec : {M : Type 1} → statement M
 head-values-spec =
     tie.close
@@ -77,4 +95,7 @@ head-values-spec =
     add-number-at
     number-at-requires-2
     in-range-requires-3
-    returns-3)
+    returns-3
+    add-byte-at-2
+    byte-at-requires-2
+    returns-4)

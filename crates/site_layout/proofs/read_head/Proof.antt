@@ -39,15 +39,25 @@ number-at-requires-2 c κs =
     let p = c .before .before .before .before .pre in
     omega (arith, head-read f (head-here f (p .0) (p .1)) _ (c .before .before .header-at .ensures .0) .inside)
 
-returns : tie.Need-returns
-returns c =
+add-byte-at-2 : tie.Need-add-byte-at-2
+add-byte-at-2 c = search needs
+
+byte-at-requires-2 : tie.Need-byte-at-requires-2
+byte-at-requires-2 c κs =
     let f = c .before .before .before .before .before .args .file .now in
     let p = c .before .before .before .before .before .pre in
-    let x = head-read f (head-here f (p .0) (p .1)) _ (c .before .before .before .header-at .ensures .0) in
+    omega (arith, head-read f (head-here f (p .0) (p .1)) _ (c .before .before .before .header-at .ensures .0) .inside)
+
+returns : tie.Need-returns
+returns c =
+    let f = c .before .before .before .before .before .before .args .file .now in
+    let p = c .before .before .before .before .before .before .pre in
+    let x = head-read f (head-here f (p .0) (p .1)) _ (c .before .before .before .before .header-at .ensures .0) in
     record {
-      horizon = c .before .before .number-at .ensures .0 ∙ x .horizon;
-      cells = c .before .byte-at .ensures .0 ∙ x .cells;
-      states = c .number-at2 .ensures .0 ∙ x .count;
+      horizon = c .before .before .before .number-at .ensures .0 ∙ x .horizon;
+      cells = c .before .before .byte-at .ensures .0 ∙ x .cells;
+      states = c .before .number-at2 .ensures .0 ∙ x .count;
+      margin = c .byte-at2 .ensures .0 ∙ x .margin;
       start = x .next;
     }
 
@@ -61,4 +71,6 @@ read-head-spec =
     byte-at-requires
     add-number-at
     number-at-requires-2
+    add-byte-at-2
+    byte-at-requires-2
     returns)

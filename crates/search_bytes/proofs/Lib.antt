@@ -1,0 +1,3 @@
+mod EightLaws
+mod TurnLaws
+pub mod WordLaws
