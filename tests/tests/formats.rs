@@ -90,7 +90,11 @@ fn called(desk: &mut Desk, call: &str) -> String {
     match call.split(' ').next().unwrap() {
         "interval" => {
             let all: Vec<String> = desk.intervals(last).unwrap().into_iter().map(|i| format!("{} to {}", i.start(), i.end())).collect();
-            if all.is_empty() { "none".to_string() } else { all.join(", ") }
+            if all.is_empty() {
+                "none".to_string()
+            } else {
+                all.join(", ")
+            }
         }
         "close" => desk.close(254, numbers[0], last..=last).map_or_else(|refusal| refusal.number().to_string(), |()| "accepted".to_string()),
         _ => in_words(desk.route(Trip { tug: 8, start: 0, tick: last, goal: 4, dwell: 0 })),

@@ -1,9 +1,8 @@
 // The ticks of a cell on the board: which are free, which a closure may take, and what is written over them.
 ghost use mathlib.Core.Path.{_≡_};
-ghost use Prim.Native.Nat.{_+_, _*_, _-_, _≤_, _<_, min};
+ghost use Prim.Native.Nat.{_+_, _-_, _≤_, _<_, min};
 ghost use lib.ListN.{length};
 ghost use Rattle.meaning.specs.Site.{Site};
-ghost use Rattle.meaning.specs.Limits.{header};
 ghost use Rattle.meaning.specs.Board.{free, closable, mark, runTo};
 ghost use Rattle.meaning.specs.Plan.{freeFromTo};
 ghost use Rattle.board_ticks.specs.Runs.{Row, barring, clearRun};
@@ -75,13 +74,9 @@ pub fn run_free(
         return true;
     }
     let row = board::HEADER + cell * (horizon + 1);
-    clear_run(
-        board,
-        row,
-        earlier(first, margin),
-        later(last, margin, horizon),
-        false,
-    )
+    let low = earlier(first, margin);
+    let high = later(last, margin, horizon);
+    clear_run(board, row, low, high, false)
 }
 
 // Is the cell free at the tick?
@@ -112,13 +107,9 @@ pub fn run_closable(
     if !clear_run(board, row, first, last, false) {
         return false;
     }
-    clear_run(
-        board,
-        row,
-        earlier(first, margin),
-        later(last, margin, horizon),
-        true,
-    )
+    let low = earlier(first, margin);
+    let high = later(last, margin, horizon);
+    clear_run(board, row, low, high, true)
 }
 
 // ---- writing

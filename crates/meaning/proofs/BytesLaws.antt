@@ -3,7 +3,7 @@
 use Prim.Native.Nat.{ℕ, zero, suc, _+_, _*_, _-_, _≤_, _<_}
 use native.Mathlib.Omega.{arith}
 use mathlib.Core.Path.{_≡_, refl, sym, ap, _∙_}
-use mathlib.Core.Bool.{Bool, true, false, not}
+use mathlib.Core.Bool.{Bool, true, not}
 use mathlib.Core.List.{List}
 use lib.Dec.{eqb}
 use borrow.Author.Tests.{eqb-true, eq-eqb, not-false}
@@ -13,7 +13,7 @@ use Rattle.meaning.specs.Limits.{header}
 use Rattle.meaning.specs.Basics.{any}
 use Rattle.meaning.specs.Site.{Site}
 use Rattle.meaning.specs.Board.{clearAround, free, closable, stands, isTug, isClosure, isHolder, boardLength, place, byteAt}
-use Rattle.meaning.specs.Refusals.{Not, Tug, Closure, Holder, HasByte, Stands, bytesSight, Within, Unheld, FreeFor, MayClose, ZeroAround, BytesRight}
+use Rattle.meaning.specs.Refusals.{Not, Tug, Closure, Holder, HasByte, Stands, bytesSight, Within, FreeFor, MayClose, ZeroAround, BytesRight}
 use Rattle.meaning.proofs.BasicsLaws.{any-at, any-from}
 use Rattle.meaning.proofs.HolderLaws.{holders-right}
 use Rattle.meaning.proofs.BoardLaws.{clear-at, clear-made, place-in, pair-at}
