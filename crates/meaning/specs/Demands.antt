@@ -186,6 +186,7 @@ pub record ListRight (file : List ℕ) (site : Site) (board : List ℕ) (xs : Li
   pub same-board : boardAfter board xs ≡ bytesOf site (plainAfterAll site emptyPlain xs)
   pub same-answers : map seen xs ≡ plainSeenAll site emptyPlain xs
   pub edition-fits : plainAfterAll site emptyPlain xs .edition ≤ 4294967295
+  -- what follows is about entries, and by same-board about the board's bytes
   -- no two holders have the same cell on the same tick, and 255 is no holder
   pub no-two : (h k c t : ℕ) → Has (plainAfterAll site emptyPlain xs .entries) h c t → Has (plainAfterAll site emptyPlain xs .entries) k c t → h ≡ k
   pub known : (h c t : ℕ) → Has (plainAfterAll site emptyPlain xs .entries) h c t → (1 ≤ h) × (h ≤ 254)

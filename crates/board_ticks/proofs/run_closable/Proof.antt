@@ -1,7 +1,11 @@
 -- `board_ticks::run_closable` meets its contract.
 -- Assumes nothing.
 use native.Mathlib.Omega.{arith}
-use mathlib.Core.Path.{refl, sym, _∙_}
+use Prim.Native.Nat.{_+_, _*_}
+use mathlib.Core.Path.{_≡_, refl, sym, _∙_}
+use mathlib.Core.Bool.{true}
+use Rattle.meaning.specs.Limits.{header}
+use Rattle.board_ticks.specs.Runs.{clearRun}
 use Rattle.meaning.specs.Board.{closable}
 use Rattle.board_ticks.proofs.TickLaws.{none-free, not-closable-of, clear-closable-of}
 use borrow.Author.Needs.{needs}
@@ -46,8 +50,11 @@ returns-3 : tie.Need-returns-3
 returns-3 c = λ site same spaced inside.
     let start = c .before .before .before .before .before .before .before in
     let a = start .args in
-    c .clear-run2 .ensures
-    ∙ clear-closable-of site (a .board .now) (a .horizon) (a .margin) (a .cell) (a .first) (a .last) _ _ same spaced inside (omega arith) (start .pre .in-time)
+    let low = c .before .before .earlier .result in
+    let high = c .before .later .result in
+    let told : c .clear-run2 .result ≡ clearRun true (a .board .now) (header + a .cell * (a .horizon + 1)) low high = c .clear-run2 .ensures in
+    told
+    ∙ clear-closable-of site (a .board .now) (a .horizon) (a .margin) (a .cell) (a .first) (a .last) low high same spaced inside (omega arith) (start .pre .in-time)
     (c .before .before .earlier .ensures) (c .before .later .ensures)
     (sym (c .before .before .before .before .clear-run .ensures) ∙ not-false _ (c .before .before .before .if2 .left))
 
