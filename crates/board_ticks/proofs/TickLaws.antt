@@ -5,7 +5,7 @@ use native.Mathlib.Omega.{arith}
 use mathlib.Core.Path.{_≡_, sym, ap, ap₂, _∙_}
 use mathlib.Core.Bool.{Bool, true, false, not, _&&_, true≢false}
 use mathlib.Core.List.{List}
-use borrow.Author.Tests.{ltb-true, ltb-false, lt-ltb, le-leb, eqb-true, eq-eqb, not-true, not-false}
+use borrow.Author.Tests.{ltb-true, ltb-false, eqb-true, eq-eqb, not-true, not-false}
 use lib.Dec.{ltb, eqb}
 use lib.ListN.{getD, set}
 use native.Mathlib.Numerals.{add-one}
@@ -14,10 +14,11 @@ use Rattle.meaning.specs.Basics.{allFrom}
 use Rattle.meaning.specs.Site.{Site}
 use Rattle.meaning.specs.Board.{isTug, place, byteAt, closable, free, run, runTo, mark, Free, boardLength, allFree}
 use Rattle.meaning.specs.Plan.{freeFromTo}
-use Rattle.meaning.specs.Refusals.{Within}
-use Rattle.meaning.proofs.BasicsLaws.{decide, same-test, every-at, every-nil, every-cons, allFrom-in, allFrom-true}
-use Rattle.meaning.proofs.BytesLaws.{tells-free, tells-closable, unheld-zero}
-use Rattle.meaning.proofs.BoardLaws.{clear-at, clear-made, place-in}
+use Rattle.meaning.specs.Refusals.{Not, Tug, Within}
+use Rattle.meaning.proofs.BasicsLaws.{decide, same-test, allFrom-in, allFrom-true}
+use Rattle.meaning.proofs.SentenceLaws.{misses, fails}
+use Rattle.meaning.proofs.BytesLaws.{tells-tug, tells-free, tells-bytes}
+use Rattle.meaning.proofs.BoardLaws.{place-in}
 use Rattle.meaning.proofs.PlanLaws.{run-free}
 use Rattle.board_ticks.specs.Runs.{Row, barring, clearRun}
 
@@ -78,7 +79,7 @@ module _ (site : Site) (h c t last : ℕ) (board : List ℕ) where
 -- ---- a run within the margin
 
 -- x is in the run or within the margin of it, up to the horizon
-pub record Around (site : Site) (first last x : ℕ) : Type 0 where
+record Around (site : Site) (first last x : ℕ) : Type 0 where
   pub low : first - site .margin ≤ x
   pub high : x ≤ min (last + site .margin) (site .horizon)
 
@@ -100,12 +101,12 @@ module _ (site : Site) (good : ℕ → Bool) (first last : ℕ) (le : first ≤ 
   abbrev aroundRun : Bool
   aroundRun = allFrom good (first - site .margin) (suc (min (last + site .margin) (site .horizon)) - (first - site .margin))
 
-  pub around-each : aroundRun ≡ true → (t x : ℕ) → first ≤ t → t ≤ last → x ≤ site .horizon → Within site t x → good x ≡ true
+  around-each : aroundRun ≡ true → (t x : ℕ) → first ≤ t → t ≤ last → x ≤ site .horizon → Within site t x → good x ≡ true
   around-each h t x lo hi in-time near =
       let a = around site first last t x lo hi in-time near in
       allFrom-in good (first - site .margin) (suc (min (last + site .margin) (site .horizon)) - (first - site .margin)) x h (a .low) (omega (arith, a .high))
 
-  pub each-around : ((t x : ℕ) → first ≤ t → t ≤ last → x ≤ site .horizon → Within site t x → good x ≡ true) → aroundRun ≡ true
+  each-around : ((t x : ℕ) → first ≤ t → t ≤ last → x ≤ site .horizon → Within site t x → good x ≡ true) → aroundRun ≡ true
   each-around h =
       allFrom-true good (first - site .margin) (suc (min (last + site .margin) (site .horizon)) - (first - site .margin))
       (λ x lo hi.
@@ -140,16 +141,13 @@ module _ (site : Site) (board : List ℕ) (c : ℕ) (hc : c < site .cells) where
   unfolding barring
   at-zero x e = ap (λ (b : Bool). not (not b)) (eq-eqb _ 0 e)
 
-  closable-here : (t : ℕ) → t ≤ site .horizon → byteAt site board c t ≡ 0
-      → ((x : ℕ) → x ≤ site .horizon → Within site t x → clearAt true x ≡ true) → closable site board c t ≡ true
-  unfolding closable barring
-  closable-here t in-time zero-there clear-there =
-      every-cons _ _ (lt-ltb _ _ hc) (every-cons _ _ (le-leb _ _ in-time) (every-cons _ _ (eq-eqb _ 0 zero-there)
-      (every-cons _ _ (clear-made site (λ (x : ℕ). isTug (byteAt site board c x)) t (λ x early near. not-true _ (clear-there x early near))) every-nil)))
+  no-tug-at : (x : ℕ) → clearAt true x ≡ true → Not (Tug (byteAt site board c x))
+  unfolding barring
+  no-tug-at x h = misses (tells-tug _) (not-true _ h)
 
-  no-tug-there : (t x : ℕ) → x ≤ site .horizon → Within site t x → closable site board c t ≡ true → clearAt true x ≡ true
-  unfolding closable barring
-  no-tug-there t x early near h = ap not (clear-at site (λ (y : ℕ). isTug (byteAt site board c y)) t x (every-at _ h 3) early near)
+  at-no-tug : (x : ℕ) → Not (Tug (byteAt site board c x)) → clearAt true x ≡ true
+  unfolding barring
+  at-no-tug x none = ap not (fails (tells-tug _) none)
 
   module _ (first last : ℕ) (le : first ≤ last) (in-time : last ≤ site .horizon) where
     abbrev row : ℕ
@@ -171,7 +169,7 @@ module _ (site : Site) (board : List ℕ) (c : ℕ) (hc : c < site .cells) where
         (λ e.
         let all-clear : allFrom (clearAt false) first (suc last - first) ≡ true =
         from-to (λ (d : ℕ). clearAt false) c first last (λ t lo hi.
-        at-zero t (unheld-zero site board c t hc (omega arith) (tells-closable site board c t .then (each-tick (closable site board) c first last e t lo hi) .0 .2))) in
+        at-zero t (tells-bytes site board c t .then (each-tick (closable site board) c first last e t lo hi) .2)) in
         absurd (true≢false (sym all-clear ∙ h)))
         (λ e. sym e)
 
@@ -180,10 +178,14 @@ module _ (site : Site) (board : List ℕ) (c : ℕ) (hc : c < site .cells) where
     unfolding clearRun
     clear-closable zeros = same-test _ _
         (λ h. from-to (closable site board) c first last (λ t lo hi.
-        closable-here t (omega arith) (zero-at t (each-tick (λ (d : ℕ). clearAt false) c first last zeros t lo hi))
-        (λ x early near. around-each site (clearAt true) first last le h t x lo hi early near)))
+        tells-bytes site board c t .back (
+          hc,
+          omega arith,
+          zero-at t (each-tick (λ (d : ℕ). clearAt false) c first last zeros t lo hi),
+          λ x early near. no-tug-at x (around-each site (clearAt true) first last le h t x lo hi early near),
+        )))
         (λ h. each-around site (clearAt true) first last le (λ t x lo hi early near.
-        no-tug-there t x early near (each-tick (closable site board) c first last h t lo hi)))
+        at-no-tug x (tells-bytes site board c t .then (each-tick (closable site board) c first last h t lo hi) .3 x early near)))
 
 -- the same, by the numbers that the code has
 module _ (site : Site) (board : List ℕ) (horizon margin c first last lo hi : ℕ) (same : site .horizon ≡ horizon) (spaced : site .margin ≡ margin)

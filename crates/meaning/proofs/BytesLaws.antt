@@ -54,7 +54,7 @@ module _ (site : Site) (board : List ℕ) where
   zero-unheld : (c x : ℕ) → byteAt site board c x ≡ 0 → (h : ℕ) → Not ((1 ≤ h) × HasByte site board h c x)
   zero-unheld c x e h (pos, (hc, ht, same)) = omega arith
 
-  pub unheld-zero : (c x : ℕ) → c < site .cells → x ≤ site .horizon → ((h : ℕ) → Not ((1 ≤ h) × HasByte site board h c x)) → byteAt site board c x ≡ 0
+  unheld-zero : (c x : ℕ) → c < site .cells → x ≤ site .horizon → ((h : ℕ) → Not ((1 ≤ h) × HasByte site board h c x)) → byteAt site board c x ≡ 0
   unheld-zero c x hc ht none = of (byteAt site board c x) refl
     where
       of : (b : ℕ) → byteAt site board c x ≡ b → byteAt site board c x ≡ 0
@@ -71,7 +71,7 @@ module _ (site : Site) (board : List ℕ) where
   tug-byte : (c x : ℕ) → Not (Tug (byteAt site board c x)) → (h : ℕ) → Tug h → Not ((1 ≤ h) × HasByte site board h c x)
   tug-byte c x none h (lo, hi) (pos, (hc, ht, same)) = none (omega arith, omega arith)
 
-  tells-bytes : (c t : ℕ) → Tells (closable site board c t)
+  pub tells-bytes : (c t : ℕ) → Tells (closable site board c t)
       ((c < site .cells) × (t ≤ site .horizon) × (byteAt site board c t ≡ 0) × ((x : ℕ) → x ≤ site .horizon → Within site t x → Not (Tug (byteAt site board c x))))
   unfolding closable
   tells-bytes c t =

@@ -19,7 +19,7 @@ use Rattle.meaning.specs.Calls.{bytesView}
 use Rattle.meaning.specs.PlainBoard.{Entry, Plain, emptyPlain, hasPair, taken, holderAt, tugTaken, plainFree, plainClosable, hasEntry, plainView, without, withEntry, cellsFrom, bytesOf}
 use Rattle.meaning.specs.Refusals.{Tug, Within}
 use Rattle.meaning.specs.Demands.{Has}
-use Rattle.meaning.proofs.BasicsLaws.{decide, every-at, every-nil, every-cons, all-head, all-tail, any-here, any-there, any-case, any-nil, same-test, u32-back, length-tabulate, tabulate-at}
+use Rattle.meaning.proofs.BasicsLaws.{decide, every-at, every-nil, every-cons, all-head, all-tail, any-here, any-there, any-case, any-nil, same-test, u32-back, length-tabulate, tabulate-at, any-at, all-at}
 use Rattle.meaning.proofs.HolderLaws.{holders-right}
 use Rattle.meaning.proofs.BytesLaws.{tells-holder, tells-stands}
 use Rattle.meaning.proofs.BoardLaws.{clear-at, clear-same, place-in, pair-at, length-edition, byte-edition, InSite, in-site, length-mark, byte-mark, length-clear, byte-clear}
@@ -347,13 +347,13 @@ module _ (site : Site) (es : List Entry) where
   unfolding plainClosable
   close-in ps h = in-site site (plainClosable site es) (λ c t e. every-cons _ _ (every-at _ e 0) (every-cons _ _ (every-at _ e 1) every-nil)) ps h
 
--- a pair of a list that is free in some sense
+-- a pair of a list that a test holds of
 pub free-pair : (f : Free) (ps : List Pair) (c t : ℕ) → allFree f ps ≡ true → hasPair ps c t ≡ true → f c t ≡ true
-free-pair f [] c t h e = absurd (true≢false (sym e ∙ any-nil (λ (p : Pair). every (eqb (p .cell) c ∷ eqb (p .tick) t ∷ []))))
-free-pair f (q ∷ ps) c t h e =
-    any-case (λ (p : Pair). every (eqb (p .cell) c ∷ eqb (p .tick) t ∷ [])) q ps e
-    (λ s. sym (ap₂ f (eqb-true _ _ (every-at _ s 0)) (eqb-true _ _ (every-at _ s 1))) ∙ all-head (λ (x : Pair). f (x .cell) (x .tick)) q ps h)
-    (λ s k. free-pair f ps c t (all-tail (λ (x : Pair). f (x .cell) (x .tick)) q ps h) k)
+free-pair f ps c t h k =
+    let origin : Pair = record { cell = 0; tick = 0 } in
+    let (i, lt, e) = any-at (λ (p : Pair). every (eqb (p .cell) c ∷ eqb (p .tick) t ∷ [])) ps origin k in
+    let here : f (getD ps i origin .cell) (getD ps i origin .tick) ≡ true = all-at (λ (p : Pair). f (p .cell) (p .tick)) ps origin h i lt in
+    sym (ap₂ f (eqb-true _ _ (every-at _ e 0)) (eqb-true _ _ (every-at _ e 1))) ∙ here
 
 -- a board with the next edition, given its length and bytes
 module _ (site : Site) (board : List ℕ) (p : Plain) (agree : Agree site board p) (early : edition board ≡ lastEdition → ⊥) (new : List ℕ) (es : List Entry) where

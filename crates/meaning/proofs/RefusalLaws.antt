@@ -2,13 +2,13 @@
 -- Assumes nothing.
 use Prim.Native.Nat.{ℕ, suc, _+_, _*_, _-_, _≤_, _<_}
 use native.Mathlib.Omega.{arith}
-use mathlib.Core.Path.{_≡_, refl, sym, ap, ap₂, _∙_}
+use mathlib.Core.Path.{_≡_, refl, sym, ap, _∙_}
 use mathlib.Core.Bool.{Bool, true, false, not, false≢true, true≢false}
 use mathlib.Core.Option.{some}
 use mathlib.Core.List.{List, [], _∷_}
 use lib.Dec.{leb, eqb}
 use borrow.Author.Tests.{eqb-true, eq-eqb, not-false}
-use lib.ListN.{length, getD}
+use lib.ListN.{length}
 use Rattle.meaning.specs.Basics.{every, all, Each, Some, here, there, Bytes, isNone}
 use Rattle.meaning.specs.Site.{Site, stateAt}
 use Rattle.meaning.specs.Board.{isTug, Free, boardLength, Pair, runTo, allFree}
@@ -20,13 +20,14 @@ use Rattle.meaning.specs.PlainBoard.{Entry, Plain, hasPair, taken, tugTa
 use Rattle.meaning.specs.ValidPlans.{ValidPlan}
 use Rattle.meaning.specs.WellFormed.{WellFormed}
 use Rattle.meaning.specs.Refusals.{_says_, Says, Not, Tug, StepKnown, Sight, bytesSight, HasEntry, InEntry, plainSight, FreeFor, MayClose, TripKnown, RunKnown, LightKnown, LightBytes, RouteRoom, callPaper, lightPaper, publicPaper, LightGiven, GivenBytes, CloseAccepted, LightAccepted, WithdrawAccepted, RouteAccepted, CallAccepted, PlainRight}
-use Rattle.meaning.proofs.BasicsLaws.{every-at, every-nil, every-cons, options, any-nil, any-here, any-there, any-case, any-at, some-any, any-some, all-at, all-each, each-all, allFrom-in, allFrom-true}
+use Rattle.meaning.proofs.BasicsLaws.{every-at, every-nil, every-cons, options, any-nil, any-here, any-there, any-case, some-any, any-some, all-each, each-all, allFrom-in, allFrom-true}
 use Rattle.meaning.proofs.SentenceLaws.{Tells, tells-as, tells-not, misses, holds, fails, told, tells-le, tells-lt, tells-eq, tells-two, tells-three, tells-four}
 use Rattle.meaning.proofs.BytesLaws.{tells-tug, tells-closure, tells-holder, tells-clear, tells-free-for, tells-closable, tells-stands}
 use Rattle.meaning.proofs.LightLaws.{lights-right, decode-some, light-decode}
 use Rattle.meaning.proofs.PlanLaws.{plan-valid, valid-plan, can-unload, unload-can, held-pairs, run-free}
 use Rattle.meaning.proofs.TraceLaws.{search-right}
 use Rattle.meaning.proofs.AnswersLaws.{Passed, rise-none, call-rise, lowest-clear}
+use Rattle.meaning.proofs.PlainLaws.{free-pair}
 use Rattle.meaning.proofs.ListLaws.{light-free}
 
 -- ---- 10, 14, 17 and 18
@@ -347,13 +348,6 @@ module _ (site : Site) (well : WellFormed site) (v : View) (s : Sight) (sees : S
   accepted-withdraw h a =
       (ap not (tells-holder h .back (a .holder)), (ap not (sees .standing h .back (a .there)), (not-last (a .below), tt)))
 
-  pair-free : (f : Free) (ps : List Pair) (c t : ℕ) → allFree f ps ≡ true → hasPair ps c t ≡ true → f c t ≡ true
-  pair-free f ps c t h k =
-      let origin : Pair = record { cell = 0; tick = 0 } in
-      let (i, lt, e) = any-at (λ (p : Pair). every (eqb (p .cell) c ∷ eqb (p .tick) t ∷ [])) ps origin k in
-      let here : f (getD ps i origin .cell) (getD ps i origin .tick) ≡ true = all-at (λ (p : Pair). f (p .cell) (p .tick)) ps origin h i lt in
-      sym (ap₂ f (eqb-true _ _ (every-at _ e 0)) (eqb-true _ _ (every-at _ e 1))) ∙ here
-
   pub light-accepted : s .edition ≤ 4294967295 → (light : List ℕ) → Each Passed (lightRefusals site v light) → LightAccepted site s (lightOf light)
   unfolding lightRefusals
   light-accepted most light (h8, (h9, (h10, (h11, (h12, (h15, (h16, (h17, rest)))))))) =
@@ -367,7 +361,7 @@ module _ (site : Site) (well : WellFormed site) (v : View) (s : Sight) (sees : S
         goal-stands = holds (tells-stand (x .goal)) h11;
         new = misses (sees .standing (x .tug)) h12;
         below = below most h15;
-        free-pairs = λ c t held. sees .free-for c t .then (pair-free (s .free) (lightPairs site x) c t all-free (held-pairs site (startOf x) (x .steps) (goalOf x) (x .dwell) c t held));
+        free-pairs = λ c t held. sees .free-for c t .then (free-pair (s .free) (lightPairs site x) c t all-free (held-pairs site (startOf x) (x .steps) (goalOf x) (x .dwell) c t held));
         valid = holds (tells-plan x) h17;
       }
 
