@@ -23,7 +23,7 @@ pub fn perform(
     match o {
         Order::Close(holder, cell, first, last) => {
             day_results::changed(
-                dispatch::close(file, board, holder, cell as u16, first, last),
+                dispatch::close(file, board, holder, cell, first, last),
                 light,
             )
         }

@@ -94,11 +94,21 @@ module _ (s : List ℕ) (h : Header) (w : Whole s 0 h) where
   first-byte p = let z : h .start + 0 ≡ h .start = omega arith in whole-byte s 0 h w 0 p ∙ ap (λ (k : ℕ). getD s k 0) z
 
   -- what the code returns for each call
-  pub close-entry : (first last : ℕ) → closeSize ≤ h .len → isField f closeTag closeSize ≡ true → first ≡ u16At s (h .start + 2) → last ≡ u16At s (h .start + 4)
-      → Call (Close (getD s (h .start) 0) (getD s (h .start + 1) 0) first last) ≡ entryBy f
+  pub close-entry : (cell first last : ℕ) → closeSize ≤ h .len → isField f closeTag closeSize ≡ true
+      → cell ≡ u16At s (h .start + 1) → first ≡ u16At s (h .start + 3) → last ≡ u16At s (h .start + 5)
+      → Call (Close (getD s (h .start) 0) cell first last) ≡ entryBy f
   unfolding entryBy callOf
-  close-entry first last p e a b =
-      rw (e, first-byte (omega arith), whole-byte s 0 h w 1 (omega arith), whole-u16 s 0 h w 2 (omega arith), whole-u16 s 0 h w 4 (omega arith), a, b) refl
+  close-entry cell first last p e x a b =
+      rw (
+        e,
+        first-byte (omega arith),
+        whole-u16 s 0 h w 1 (omega arith),
+        whole-u16 s 0 h w 3 (omega arith),
+        whole-u16 s 0 h w 5 (omega arith),
+        x,
+        a,
+        b,
+      ) refl
 
   pub withdraw-entry : withdrawSize ≤ h .len → isField f closeTag closeSize ≡ false → isField f withdrawTag withdrawSize ≡ true
       → Call (Withdraw (getD s (h .start) 0)) ≡ entryBy f

@@ -20,7 +20,7 @@ const ROUTE: u8 = 34;
 
 const POST: u8 = 35;
 
-const CLOSE_SIZE: usize = 6;
+const CLOSE_SIZE: usize = 7;
 
 const WITHDRAW_SIZE: usize = 1;
 
@@ -33,7 +33,7 @@ pub const PIECE: usize = FIELD_HEADER + ROUTE_SIZE;
 
 // A call of the script; the light of a post is the last granted one.
 pub enum Order {
-    Close(u8, u8, u16, u16),
+    Close(u8, u16, u16, u16),
     Withdraw(u8),
     Route(u8, u16, u16, u16, u16),
     Post,
@@ -80,9 +80,10 @@ fn field_entry(bytes: &[u8], h: Header) -> Entry
     let at = h.start;
     let len = h.len;
     if is_call(tag, len, CLOSE, CLOSE_SIZE) {
-        let first = fields::u16_at(bytes, at + 2);
-        let last = fields::u16_at(bytes, at + 4);
-        return Entry::Call(Order::Close(bytes[at], bytes[at + 1], first, last));
+        let cell = fields::u16_at(bytes, at + 1);
+        let first = fields::u16_at(bytes, at + 3);
+        let last = fields::u16_at(bytes, at + 5);
+        return Entry::Call(Order::Close(bytes[at], cell, first, last));
     }
     if is_call(tag, len, WITHDRAW, WITHDRAW_SIZE) {
         return Entry::Call(Order::Withdraw(bytes[at]));

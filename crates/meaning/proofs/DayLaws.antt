@@ -35,7 +35,7 @@ long-value : (light : List ℕ) (f : Field) → routeSize < length (f .value) �
 unfolding callOf
 long-value light f h =
     rw (
-      other-size f 32 6 (λ e. omega arith),
+      other-size f 32 7 (λ e. omega arith),
       other-size f 33 1 (λ e. omega arith),
       other-size f 34 9 (λ e. omega arith),
       other-size f 35 0 (λ e. omega arith),
@@ -127,10 +127,15 @@ the-call e = cc
 pub calls : (light : List ℕ) (f : Field) (c : Call) → Bytes (f .value) → callOf light f ≡ some c → ScriptField light c f
 unfolding callOf
 calls light f c bytes e =
-    decide (isField f 32 6)
-    (λ h. by (close (getD v 0 0) (getD v 1 0) (u16At v 2) (u16At v 4)) (simp h at e)
-    (let (t, n) = is-field f 32 6 h in
-    (u16-below v bytes 2, u16-below v bytes 4, sym (field-is f 32 _ t (list-of v 6 n ∙ sym (ap₂ (λ (x y : List ℕ). getD v 0 0 ∷ getD v 1 0 ∷ (x ++ y)) (put16-at v bytes 2) (put16-at v bytes 4)))))))
+    decide (isField f 32 7)
+    (λ h. by (close (getD v 0 0) (u16At v 1) (u16At v 3) (u16At v 5)) (simp h at e)
+    (let (t, n) = is-field f 32 7 h in (
+      u16-below v bytes 1,
+      u16-below v bytes 3,
+      u16-below v bytes 5,
+      sym (field-is f 32 _ t (list-of v 7 n ∙ sym (ap₂ (λ (x y : List ℕ). getD v 0 0 ∷ (x ++ y)) (put16-at v bytes 1)
+          (ap₂ (λ (x y : List ℕ). x ++ y) (put16-at v bytes 3) (put16-at v bytes 5))))),
+    )))
     (λ h. decide (isField f 33 1)
     (λ k. by (withdraw (getD v 0 0)) (simp (h, k) at e) (let (t, n) = is-field f 33 1 k in sym (field-is f 33 _ t (list-of v 1 n))))
     (λ k. decide (isField f 34 9)
@@ -155,7 +160,7 @@ calls light f c bytes e =
 
 pub all-calls : (light : List ℕ) (f : Field) (c : Call) → ScriptField light c f → callOf light f ≡ some c
 unfolding callOf
-all-calls light f (close h cell first last) (lo, hi, e) = rw (e, u16-back first lo, u16-back last hi) refl
+all-calls light f (close h cell first last) (c, lo, hi, e) = rw (e, u16-back cell c, u16-back first lo, u16-back last hi) refl
 all-calls light f (withdraw h) e = rw e refl
 all-calls light f (route tug a goal dwell) (s, t, g, w, e) = rw (e, u16-back (a .state) s, u16-back (a .tick) t, u16-back goal g, u16-back dwell w) refl
 all-calls light f (post granted) (same, e) = rw (e, same) refl

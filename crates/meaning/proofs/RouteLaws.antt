@@ -71,7 +71,7 @@ module _ (file : List ℕ) (well : WellFormed (siteOf file)) (l : Lent) (fits : 
     keeps =
         let (laid, named, few, in-time) = found-steps site well f a goal dwell r e in
         let most : site .horizon ≤ 1000 = well .horizon-range .1 in
-        let states : length (site .states) ≤ 256 = well .states-range .1 in
+        let states : length (site .states) ≤ 1280 = well .states-range .1 in
         let start-known : a .state < length (site .states) = named-start site a goal dwell (passes .named) in
         let start-early : a .tick ≤ site .horizon = named-tick site a goal dwell (passes .named) in
         let goal-known : goal < length (site .states) = named-goal site a goal dwell (passes .named) in

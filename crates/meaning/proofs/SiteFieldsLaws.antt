@@ -16,7 +16,7 @@ use Rattle.meaning.specs.Site.{State, Sweep, Motion, Site, sweepsOf, sta
 use Rattle.meaning.specs.Refusals.{HeadField}
 use Rattle.meaning.specs.WellFormed.{WellFormed, stateField, sweepBytes, motionField, headField}
 use Rattle.meaning.proofs.BasicsLaws.{and-left, and-right, all-each, each-all, within-range, range-within, u16-back, u16-bytes}
-use Rattle.meaning.proofs.FieldsLaws.{field-is, list-of, byte-at}
+use Rattle.meaning.proofs.FieldsLaws.{bytes-drop, field-is, list-of, byte-at}
 use Rattle.meaning.proofs.MotionLaws.{and-three}
 
 -- ---- a property of every element of a list
@@ -41,6 +41,11 @@ each-drop P zero xs h = h
 each-drop P (suc n) [] h = tt
 each-drop P (suc n) (x ∷ xs) (h, hs) = each-drop P n xs hs
 
+pub each-take : {A : Type 0} (P : A → Type 0) (n : ℕ) (xs : List A) → Each P xs → Each P (take n xs)
+each-take P zero xs h = tt
+each-take P (suc n) [] h = tt
+each-take P (suc n) (x ∷ xs) (h, hs) = (h, each-take P n xs hs)
+
 pub each-both : {A : Type 0} (P Q : A → Type 0) (xs : List A) → Each P xs → Each Q xs → Each (λ (x : A). P x × Q x) xs
 each-both P Q [] h k = tt
 each-both P Q (x ∷ xs) (h, hs) (k, ks) = ((h, k), each-both P Q xs hs ks)
@@ -61,30 +66,38 @@ two-bytes v h i = u16-bytes (getD v i 0) (getD v (i + 1) 0) (byte-at v h i) (byt
 
 -- ---- sweeps
 
-sweeps-count : (n : ℕ) (s : List ℕ) → length s ≡ 3 * n → length (sweepsOf s) ≡ n
+sweeps-count : (n : ℕ) (s : List ℕ) → length s ≡ sweepSize * n → length (sweepsOf s) ≡ n
 unfolding sweepsOf
 sweeps-count zero [] h = refl
 sweeps-count zero (c ∷ s) h = absurd (omega arith)
 sweeps-count (suc n) [] h = absurd (omega arith)
 sweeps-count (suc n) (c ∷ []) h = absurd (omega arith)
-sweeps-count (suc n) (c ∷ a ∷ []) h = absurd (omega arith)
-sweeps-count (suc n) (c ∷ a ∷ b ∷ s) h = ap suc (sweeps-count n s (omega arith))
+sweeps-count (suc n) (c ∷ d ∷ []) h = absurd (omega arith)
+sweeps-count (suc n) (c ∷ d ∷ a ∷ []) h = absurd (omega arith)
+sweeps-count (suc n) (c ∷ d ∷ a ∷ b ∷ s) h = ap suc (sweeps-count n s (omega arith))
 
-sweeps-written : (n : ℕ) (s : List ℕ) → length s ≡ 3 * n → sweepBytes (sweepsOf s) ≡ s
+sweeps-written : (n : ℕ) (s : List ℕ) → Bytes s → length s ≡ sweepSize * n → sweepBytes (sweepsOf s) ≡ s
 unfolding sweepsOf
-sweeps-written zero [] h = refl
-sweeps-written zero (c ∷ s) h = absurd (omega arith)
-sweeps-written (suc n) [] h = absurd (omega arith)
-sweeps-written (suc n) (c ∷ []) h = absurd (omega arith)
-sweeps-written (suc n) (c ∷ a ∷ []) h = absurd (omega arith)
-sweeps-written (suc n) (c ∷ a ∷ b ∷ s) h = ap {B = List ℕ} (λ r. c ∷ a ∷ b ∷ r) (sweeps-written n s (omega arith))
+sweeps-written zero [] bytes h = refl
+sweeps-written zero (c ∷ s) bytes h = absurd (omega arith)
+sweeps-written (suc n) [] bytes h = absurd (omega arith)
+sweeps-written (suc n) (c ∷ []) bytes h = absurd (omega arith)
+sweeps-written (suc n) (c ∷ d ∷ []) bytes h = absurd (omega arith)
+sweeps-written (suc n) (c ∷ d ∷ a ∷ []) bytes h = absurd (omega arith)
+sweeps-written (suc n) (c ∷ d ∷ a ∷ b ∷ s) (bc, (bd, (ba, (bb, bytes)))) h =
+    let (high, low) = u16-bytes c d bc bd in
+    rw (high, low, sweeps-written n s bytes (omega arith))
 
-sweeps-read : (ws : List Sweep) → sweepsOf (sweepBytes ws) ≡ ws
+-- a cell that two bytes can name
+abbrev pub CellFits : Sweep → Type 0
+CellFits w = w .cell < 65536
+
+sweeps-read : (ws : List Sweep) → Each CellFits ws → sweepsOf (sweepBytes ws) ≡ ws
 unfolding sweepsOf
-sweeps-read [] = refl
-sweeps-read (w ∷ ws) = ap {B = List Sweep} (λ r. w ∷ r) (sweeps-read ws)
+sweeps-read [] h = refl
+sweeps-read (w ∷ ws) (h, hs) = rw (u16-back (w .cell) h, sweeps-read ws hs)
 
-sweep-bytes-length : (ws : List Sweep) → length (sweepBytes ws) ≡ 3 * length ws
+sweep-bytes-length : (ws : List Sweep) → length (sweepBytes ws) ≡ sweepSize * length ws
 sweep-bytes-length [] = refl
 sweep-bytes-length (w ∷ ws) = let e = sweep-bytes-length ws in omega arith
 
@@ -100,15 +113,16 @@ state-parts f h = (
   eqb-true (length (f .value)) stateSize (and-right (eqb (f .tag) stateTag) (eqb (length (f .value)) stateSize) h),
 )
 
-pub state-written : (f : Field) → IsState f → stateField (stateOf f) ≡ f
+pub state-written : (f : Field) → IsState f → Bytes (f .value) → stateField (stateOf f) ≡ f
 unfolding stateOf
-state-written f h =
+state-written f h bytes =
     let (t, l) = state-parts f h in
-    field-is f _ _ t (list-of (f .value) stateSize l)
+    let (a, b) = two-bytes (f .value) bytes 0 in
+    field-is f _ _ t (rw (a, b) (list-of (f .value) stateSize l))
 
-pub state-read : (s : State) → stateOf (stateField s) ≡ s
+pub state-read : (s : State) → s .cell < 65536 → stateOf (stateField s) ≡ s
 unfolding stateOf
-state-read s = refl
+state-read s p = let back = u16-back (s .cell) p in λ i. record { cell = back i; speed = s .speed }
 
 pub state-made : (s : State) → isState (stateField s) ≡ true
 unfolding isState
@@ -138,7 +152,7 @@ motion-written f h bytes =
     let rest = length-drop 5 v in
     let (a, b) = two-bytes v bytes 0 in
     let (c, d) = two-bytes v bytes 2 in
-    let ws : sweepBytes (sweepsOf (drop 5 v)) ≡ drop 5 v = sweeps-written n (drop 5 v) (omega arith) in
+    let ws : sweepBytes (sweepsOf (drop 5 v)) ≡ drop 5 v = sweeps-written n (drop 5 v) (bytes-drop 5 v bytes) (omega arith) in
     field-is f _ _ t (rw (a, b, c, d, ws) (first-five v (omega arith)))
 
 pub motion-sweeps : (f : Field) → IsMotion f → length (motionOf f .sweeps) ≡ sweepCount (length (f .value))
@@ -148,12 +162,12 @@ motion-sweeps f h =
     let rest = length-drop 5 (f .value) in
     sweeps-count (sweepCount (length (f .value))) (drop 5 (f .value)) (omega arith)
 
-pub motion-read : (m : Motion) → m .from < 65536 → m .to < 65536 → motionOf (motionField m) ≡ m
+pub motion-read : (m : Motion) → m .from < 65536 → m .to < 65536 → Each CellFits (m .sweeps) → motionOf (motionField m) ≡ m
 unfolding motionOf
-motion-read m p q =
+motion-read m p q narrow =
     let from-back = u16-back (m .from) p in
     let to-back = u16-back (m .to) q in
-    let sweeps-back = sweeps-read (m .sweeps) in
+    let sweeps-back = sweeps-read (m .sweeps) narrow in
     λ i. record { from = from-back i; to = to-back i; span = m .span; sweeps = sweeps-back i }
 
 pub motion-size : (m : Motion) → length (motionField m .value) ≡ motionSize + sweepSize * length (m .sweeps)
@@ -212,17 +226,17 @@ head-good f h =
     let a = eqb (f .tag) headTag in
     let b = eqb (length v) headSize in
     let c = within 1 horizonLimit (u16At v 0) in
-    let d = within 1 cellLimit (getD v 2 0) in
-    let e = within 1 stateLimit (u16At v 3) in
-    let g = leb (getD v 5 0) marginLimit in
+    let d = within 1 cellLimit (u16At v 2) in
+    let e = within 1 stateLimit (u16At v 4) in
+    let g = leb (getD v 6 0) marginLimit in
     let k = and-left (a && b && c && d && e) g h in
     let (x, y, z) = and-three a b c (and-left (a && b && c) d (and-left (a && b && c && d) e k)) in
     record {
       tag-right = eqb-true (f .tag) headTag x;
       size-right = eqb-true (length v) headSize y;
       horizon-range = within-range 1 horizonLimit (u16At v 0) z;
-      cells-range = within-range 1 cellLimit (getD v 2 0) (and-right (a && b && c) d (and-left (a && b && c && d) e k));
-      states-range = within-range 1 stateLimit (u16At v 3) (and-right (a && b && c && d) e k);
+      cells-range = within-range 1 cellLimit (u16At v 2) (and-right (a && b && c) d (and-left (a && b && c && d) e k));
+      states-range = within-range 1 stateLimit (u16At v 4) (and-right (a && b && c && d) e k);
       margin-range = leb-true _ _ (and-right (a && b && c && d && e) g h);
     }
 
@@ -234,29 +248,31 @@ good-head f h =
       eq-eqb (f .tag) headTag (h .tag-right),
       eq-eqb (length v) headSize (h .size-right),
       range-within 1 horizonLimit (u16At v 0) (h .horizon-range .0) (h .horizon-range .1),
-      range-within 1 cellLimit (getD v 2 0) (h .cells-range .0) (h .cells-range .1),
-      range-within 1 stateLimit (u16At v 3) (h .states-range .0) (h .states-range .1),
-      le-leb (getD v 5 0) marginLimit (h .margin-range),
+      range-within 1 cellLimit (u16At v 2) (h .cells-range .0) (h .cells-range .1),
+      range-within 1 stateLimit (u16At v 4) (h .states-range .0) (h .states-range .1),
+      le-leb (getD v 6 0) marginLimit (h .margin-range),
     )
 
 pub head-written : (f : Field) (site : Site) → HeadField f → Bytes (f .value)
-    → site .horizon ≡ u16At (f .value) 0 → site .cells ≡ getD (f .value) 2 0 → site .margin ≡ getD (f .value) 5 0 → length (site .states) ≡ u16At (f .value) 3
+    → site .horizon ≡ u16At (f .value) 0 → site .cells ≡ u16At (f .value) 2 → site .margin ≡ getD (f .value) 6 0 → length (site .states) ≡ u16At (f .value) 4
     → headField site ≡ f
 head-written f site h bytes horizon cells margin states =
     let v = f .value in
     let (a, b) = two-bytes v bytes 0 in
-    let (c, d) = two-bytes v bytes 3 in
-    field-is f _ _ (h .tag-right) (rw (horizon, cells, margin, states, a, b, c, d) (list-of v headSize (h .size-right)))
+    let (c, d) = two-bytes v bytes 2 in
+    let (g, k) = two-bytes v bytes 4 in
+    field-is f _ _ (h .tag-right) (rw (horizon, cells, margin, states, a, b, c, d, g, k) (list-of v headSize (h .size-right)))
 
 pub head-made : (site : Site) → WellFormed site → HeadField (headField site)
 head-made site well =
     let horizon = u16-back (site .horizon) (omega arith) in
+    let cells = u16-back (site .cells) (omega arith) in
     let states = u16-back (length (site .states)) (omega arith) in
     record {
       tag-right = refl;
       size-right = refl;
       horizon-range = rw horizon (well .horizon-range);
-      cells-range = well .cells-range;
+      cells-range = rw cells (well .cells-range);
       states-range = rw states (well .states-range);
       margin-range = well .margin-range;
     }

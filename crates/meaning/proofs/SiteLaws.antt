@@ -12,7 +12,7 @@ use Rattle.meaning.specs.Limits.{fileLimit}
 use Rattle.meaning.specs.Basics.{all, Each, Bytes, u16At}
 use Rattle.meaning.specs.Answers.{lowest, accepted, refused, answer}
 use Rattle.meaning.specs.Fields.{Field, fields, complete, listed, fieldsBytes}
-use Rattle.meaning.specs.Site.{State, Motion, Site, stateOf, motionOf, headOf, laterOf, stateCount, siteOf}
+use Rattle.meaning.specs.Site.{State, Sweep, Motion, Site, stateOf, motionOf, headOf, laterOf, stateCount, siteOf}
 use Rattle.meaning.specs.Site.{headGood, layoutGood, cellGood, motionGood, siteRefusals, readSite}
 use Rattle.meaning.specs.WellFormed.{GoodMotion, WellFormed, stateField, motionField, headField, fileOf}
 use Rattle.meaning.specs.Refusals.{Writable}
@@ -21,7 +21,7 @@ use Rattle.meaning.proofs.BasicsLaws.{all-head, all-tail, all-each, eac
 use Rattle.meaning.proofs.AnswersLaws.{lowest-none, lowest-clear, answer-accepted, accepted-answer, site-rise}
 use Rattle.meaning.proofs.FieldsLaws.{fields-of, bytes-of}
 use Rattle.meaning.proofs.MotionLaws.{motion-good, good-motion}
-use Rattle.meaning.proofs.SiteFieldsLaws.{map-back, each-mapped, each-joined, each-drop, each-both}
+use Rattle.meaning.proofs.SiteFieldsLaws.{CellFits, each-take, map-back, each-mapped, each-joined, each-drop, each-both}
 use Rattle.meaning.proofs.SiteFieldsLaws.{IsState, state-written, state-read, state-made, IsMotion, motion-parts, motion-written, motion-sweeps, motion-read, motion-size, motion-made}
 use Rattle.meaning.proofs.SiteFieldsLaws.{layout-states, layout-enough, layout-motions, laid-out, motions-laid, laid-motions, head-good, good-head, head-written, head-made, head-first}
 
@@ -128,11 +128,13 @@ passes-head : (file : List ℕ) → Passes file → Bytes (headOf file .value) �
 unfolding siteOf stateCount
 passes-head file p bytes = head-written (headOf file) (siteOf file) (head-good (headOf file) (p .head)) bytes refl refl refl (state-number file (p .layout))
 
-passes-states : (file : List ℕ) → Passes file → map stateField (siteOf file .states) ≡ take (stateCount file) (laterOf file)
+passes-states : (file : List ℕ) → Passes file → Each OfBytes (laterOf file) → map stateField (siteOf file .states) ≡ take (stateCount file) (laterOf file)
 unfolding siteOf
-passes-states file p =
-    map-back IsState stateOf stateField state-written (take (stateCount file) (laterOf file))
-    (layout-states (stateCount file) (laterOf file) (p .layout))
+passes-states file p bytes =
+    let n = stateCount file in
+    let ss = take n (laterOf file) in
+    map-back (λ (f : Field). IsState f × OfBytes f) stateOf stateField (λ f (h, b). state-written f h (b .1)) ss
+    (each-both IsState OfBytes ss (layout-states n (laterOf file) (p .layout)) (each-take OfBytes n (laterOf file) bytes))
 
 passes-motions : (file : List ℕ) → Passes file → Each OfBytes (laterOf file)
     → map motionField (siteOf file .motions) ≡ drop (stateCount file) (laterOf file)
@@ -152,7 +154,7 @@ passes-file file bytes p =
     let all-fields = passes-fields file p in
     let (first, rest) = subst (Each OfBytes) (sym all-fields) each in
     let head = passes-head file p (first .1) in
-    let later = ap₂ {C = List Field} (λ ss ms. ss ++ ms) (passes-states file p) (passes-motions file p rest) ∙ take-append-drop n (laterOf file) in
+    let later = ap₂ {C = List Field} (λ ss ms. ss ++ ms) (passes-states file p rest) (passes-motions file p rest) ∙ take-append-drop n (laterOf file) in
     ap fieldsBytes (ap₂ {C = List Field} (λ f fs. f ∷ fs) head later ∙ all-fields) ∙ back
 
 -- ---- the file of a well-formed site is accepted
@@ -162,22 +164,31 @@ siteFields site = map stateField (site .states) ++ map motionField (site .motion
 
 -- a motion that a file can hold
 abbrev MotionFits : Motion → Type 0
-MotionFits m = (m .from < 65536) × (m .to < 65536) × (length (m .sweeps) ≤ 16)
+MotionFits m = (m .from < 65536) × (m .to < 65536) × (length (m .sweeps) ≤ 16) × Each CellFits (m .sweeps)
 
 motion-fits : (m : Motion) → MotionFits m → length (motionField m .value) < 65536
-motion-fits m (from, to, most) = let e = motion-size m in omega arith
+motion-fits m (from, to, most, cells) = let e = motion-size m in omega arith
 
 well-written : (site : Site) → WellFormed site → Writable site
 well-written site well = record {
   horizon-fits = omega (arith, well .horizon-range .1);
+  cells-fit = omega (arith, well .cells-range .1);
   states-fit = omega (arith, well .states-range .1);
+  state-cells-fit = each-map (CellKnown site) (λ (s : State). s .cell < 65536) (λ s below. let most = well .cells-range .1 in omega arith)
+      (site .states) (well .state-cells);
   motions-fit = each-map (GoodMotion site) MotionFits
       (λ m good.
       let from = good .from-below in
       let to = good .to-below in
       let most = well .states-range .1 in
-      (omega arith, omega arith, good .few-sweeps)) (site .motions) (well .motions-good);
+      (omega arith, omega arith, good .few-sweeps, sweeps m good)) (site .motions) (well .motions-good);
 }
+  where
+    sweeps : (m : Motion) → GoodMotion site m → Each CellFits (m .sweeps)
+    sweeps m good =
+        let most = well .cells-range .1 in
+        each-map (λ (w : Sweep). (w .cell < site .cells) × (w .first ≤ w .last) × (w .last ≤ m .span)) CellFits
+        (λ w (below, ordered, in-span). omega arith) (m .sweeps) (good .sweeps-fit)
 
 -- no field is too long
 fields-fit : (site : Site) → Writable site → Each (λ (f : Field). length (f .value) < 65536) (headField site ∷ siteFields site)
@@ -211,24 +222,20 @@ module _ (file : List ℕ) (site : Site) (fit : Writable site) (same : listed (f
   file-states =
       let ss = map stateField (site .states) in
       rw (file-count, file-later, take-at ss (map motionField (site .motions)) (length (site .states)) (length-map (site .states) stateField))
-      (states-back (site .states))
-    where
-      states-back : (ss : List State) → map stateOf (map stateField ss) ≡ ss
-      states-back [] = refl
-      states-back (s ∷ ss) = ap₂ {C = List State} (λ x xs. x ∷ xs) (state-read s) (states-back ss)
+      (map-back (λ (s : State). s .cell < 65536) stateField stateOf state-read (site .states) (fit .state-cells-fit))
 
   file-motions : map motionOf (drop (stateCount file) (laterOf file)) ≡ site .motions
   file-motions =
       let ss = map stateField (site .states) in
       rw (file-count, file-later, drop-at ss (map motionField (site .motions)) (length (site .states)) (length-map (site .states) stateField))
-      (map-back MotionFits motionField motionOf (λ m (from, to, most). motion-read m from to) (site .motions) (fit .motions-fit))
+      (map-back MotionFits motionField motionOf (λ m (from, to, most, cells). motion-read m from to cells) (site .motions) (fit .motions-fit))
 
   file-site : siteOf file ≡ site
   unfolding siteOf
   file-site =
       let horizon : u16At (headOf file .value) 0 ≡ site .horizon = rw file-head (u16-back (site .horizon) (fit .horizon-fits)) in
-      let cells : getD (headOf file .value) 2 0 ≡ site .cells = rw file-head in
-      let margin : getD (headOf file .value) 5 0 ≡ site .margin = rw file-head in
+      let cells : u16At (headOf file .value) 2 ≡ site .cells = rw file-head (u16-back (site .cells) (fit .cells-fit)) in
+      let margin : getD (headOf file .value) 6 0 ≡ site .margin = rw file-head in
       λ i. record { horizon = horizon i; cells = cells i; margin = margin i; states = file-states i; motions = file-motions i }
 
 -- the file of any site is read as that site, refused or not

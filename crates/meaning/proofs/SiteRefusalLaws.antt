@@ -52,7 +52,7 @@ tells-head f = record { then = head-good f; back = good-head f }
 
 state-test : (f : Field) → StateField f → IsState f
 unfolding isState
-state-test f (t, n) = simp (eq-eqb (f .tag) 2 t, eq-eqb (length (f .value)) 2 n)
+state-test f (t, n) = simp (eq-eqb (f .tag) 2 t, eq-eqb (length (f .value)) 3 n)
 
 motion-test : (f : Field) → MotionField f → IsMotion f
 unfolding isMotion sweepCount
@@ -98,7 +98,7 @@ module _ (fs : List Field) (short : Each ShortField fs) where
   unfolding laterOf
   later-is = rw same
 
-  count-is : stateCount file ≡ u16At (headIn fs .value) 3
+  count-is : stateCount file ≡ u16At (headIn fs .value) 4
   unfolding stateCount
   count-is = rw head-is
 
@@ -108,7 +108,7 @@ module _ (fs : List Field) (short : Each ShortField fs) where
     back = each-all (λ (s : State). s .cell < site .cells) (cellGood (site .cells)) (λ s. lt-ltb (s .cell) (site .cells)) (site .states);
   }
 
-  layout-same : layoutGood (stateCount file) (laterOf file) ≡ layoutGood (u16At (headIn fs .value) 3) (drop 1 fs)
+  layout-same : layoutGood (stateCount file) (laterOf file) ≡ layoutGood (u16At (headIn fs .value) 4) (drop 1 fs)
   layout-same = ap₂ layoutGood count-is later-is
 
   fields-say : Says (take 3 (drop 2 (siteRefusals file))) (fieldsPaper fs (siteOf file))
@@ -116,7 +116,7 @@ module _ (fs : List Field) (short : Each ShortField fs) where
   fields-say = (
     told 3 (tells-not (subst (λ (f : Field). Tells (headGood f) (HeadField (headIn fs))) (sym head-is) (tells-head (headIn fs)))),
     (
-      told 4 (tells-not (subst (λ (b : Bool). Tells b (LaidIn fs)) (sym layout-same) (tells-layout (u16At (headIn fs .value) 3) (drop 1 fs)))),
+      told 4 (tells-not (subst (λ (b : Bool). Tells b (LaidIn fs)) (sym layout-same) (tells-layout (u16At (headIn fs .value) 4) (drop 1 fs)))),
       (told 5 (tells-not (tells-cells (siteOf file))), tt),
     ),
   )
@@ -129,7 +129,7 @@ module _ (fs : List Field) (short : Each ShortField fs) where
   tells-motions : LaidIn fs → Tells (all (motionGood (siteOf file)) (siteOf file .motions)) (Each (GoodMotion (siteOf file)) (siteOf file .motions))
   tells-motions laid =
       let good : layoutGood (stateCount file) (laterOf file) ≡ true =
-      layout-same ∙ tells-layout (u16At (headIn fs .value) 3) (drop 1 fs) .back laid in
+      layout-same ∙ tells-layout (u16At (headIn fs .value) 4) (drop 1 fs) .back laid in
       let (moving, few) = motions-laid _ (layout-motions (stateCount file) (laterOf file) good) in
       record {
         then = motions-made moving;

@@ -40,7 +40,7 @@ isField f tag size = eqb (f .tag) tag && eqb (length (f .value)) size
 unfoldable pub callOf : List ℕ → Field → Option Call
 callOf light f =
     let v : List ℕ = f .value in
-    cond (isField f closeTag closeSize) (some (close (getD v 0 0) (getD v 1 0) (u16At v 2) (u16At v 4)))
+    cond (isField f closeTag closeSize) (some (close (getD v 0 0) (u16At v 1) (u16At v 3) (u16At v 5)))
     (cond (isField f withdrawTag withdrawSize) (some (withdraw (getD v 0 0)))
     (cond (isField f routeTag routeSize) (some (route (getD v 0 0) (record { state = u16At v 1; tick = u16At v 3 }) (u16At v 5) (u16At v 7)))
     (cond (isField f postTag 0) (some (post light)) none)))

@@ -29,7 +29,8 @@ pub data LineText (number edition arrival : ℕ) : List ℕ → Type 0 where
 -- the field of a script that makes this call, given the last granted light; audit has none
 abbrev pub ScriptField : List ℕ → Call → Field → Type 0
 ScriptField light (close h cell first last) f =
-    (first < 65536) × (last < 65536) × (f ≡ record { tag = 32; value = h ∷ cell ∷ (put16 first ++ put16 last) })
+    (cell < 65536) × (first < 65536) × (last < 65536)
+    × (f ≡ record { tag = 32; value = h ∷ (put16 cell ++ (put16 first ++ put16 last)) })
 ScriptField light (withdraw h) f = f ≡ record { tag = 33; value = h ∷ [] }
 ScriptField light (route tug a goal dwell) f =
     (a .state < 65536) × (a .tick < 65536) × (goal < 65536) × (dwell < 65536)

@@ -13,13 +13,13 @@ abbrev pub horizonLimit : ℕ
 horizonLimit = 1000
 
 abbrev pub cellLimit : ℕ
-cellLimit = 255
+cellLimit = 1000
 
 abbrev pub stateLimit : ℕ
-stateLimit = 256
+stateLimit = 1280
 
 abbrev pub motionLimit : ℕ
-motionLimit = 2000
+motionLimit = 4000
 
 abbrev pub sweepLimit : ℕ
 sweepLimit = 16
@@ -94,16 +94,16 @@ fieldHeader = 3
 
 -- the values of a site's fields; a motion's before its sweeps
 abbrev pub headSize : ℕ
-headSize = 6
+headSize = 7
 
 abbrev pub stateSize : ℕ
-stateSize = 2
+stateSize = 3
 
 abbrev pub motionSize : ℕ
 motionSize = 5
 
 abbrev pub sweepSize : ℕ
-sweepSize = 3
+sweepSize = 4
 
 -- the values of a light's fields
 abbrev pub lightHeadSize : ℕ
@@ -118,7 +118,7 @@ header = 4
 
 -- the values of a script's fields
 abbrev pub closeSize : ℕ
-closeSize = 6
+closeSize = 7
 
 abbrev pub withdrawSize : ℕ
 withdrawSize = 1

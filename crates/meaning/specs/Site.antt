@@ -58,15 +58,16 @@ standing site s = eqb (stateAt site s .speed) 0
 
 -- ---- what the fields say
 
--- three bytes to a sweep
+-- four bytes to a sweep
 unfoldable pub sweepsOf : List ℕ → List Sweep
 sweepsOf [] = []
-sweepsOf (c ∷ []) = []
-sweepsOf (c ∷ a ∷ []) = []
-sweepsOf (c ∷ a ∷ b ∷ s) = record { cell = c; first = a; last = b } ∷ sweepsOf s
+sweepsOf (h ∷ []) = []
+sweepsOf (h ∷ l ∷ []) = []
+sweepsOf (h ∷ l ∷ a ∷ []) = []
+sweepsOf (h ∷ l ∷ a ∷ b ∷ s) = record { cell = h * 256 + l; first = a; last = b } ∷ sweepsOf s
 
 unfoldable pub stateOf : Field → State
-stateOf f = record { cell = getD (f .value) 0 0; speed = getD (f .value) 1 0 }
+stateOf f = record { cell = u16At (f .value) 0; speed = getD (f .value) 2 0 }
 
 unfoldable pub motionOf : Field → Motion
 motionOf f =
@@ -80,14 +81,14 @@ unfoldable pub laterOf : List ℕ → List Field
 laterOf file = drop 1 (listed (fields file))
 
 unfoldable pub stateCount : List ℕ → ℕ
-stateCount file = u16At (headOf file .value) 3
+stateCount file = u16At (headOf file .value) 4
 
 unfoldable pub siteOf : List ℕ → Site
 siteOf file =
     record {
       horizon = u16At (headOf file .value) 0;
-      cells = getD (headOf file .value) 2 0;
-      margin = getD (headOf file .value) 5 0;
+      cells = u16At (headOf file .value) 2;
+      margin = getD (headOf file .value) 6 0;
       states = map stateOf (take (stateCount file) (laterOf file));
       motions = map motionOf (drop (stateCount file) (laterOf file));
     }
@@ -97,8 +98,8 @@ siteOf file =
 unfoldable pub headGood : Field → Bool
 headGood f =
     eqb (f .tag) headTag && eqb (length (f .value)) headSize && within 1 horizonLimit (u16At (f .value) 0)
-    && within 1 cellLimit (getD (f .value) 2 0) && within 1 stateLimit (u16At (f .value) 3)
-    && leb (getD (f .value) 5 0) marginLimit
+    && within 1 cellLimit (u16At (f .value) 2) && within 1 stateLimit (u16At (f .value) 4)
+    && leb (getD (f .value) 6 0) marginLimit
 
 -- ---- 4: tags, lengths, order and number
 

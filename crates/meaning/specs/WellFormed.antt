@@ -33,27 +33,27 @@ pub record GoodMotion (site : Site) (m : Motion) : Type 0 where
 
 pub record WellFormed (site : Site) : Type 0 where
   pub horizon-range : (1 ≤ site .horizon) × (site .horizon ≤ 1000)
-  pub cells-range : (1 ≤ site .cells) × (site .cells ≤ 255)
-  pub states-range : (1 ≤ length (site .states)) × (length (site .states) ≤ 256)
+  pub cells-range : (1 ≤ site .cells) × (site .cells ≤ 1000)
+  pub states-range : (1 ≤ length (site .states)) × (length (site .states) ≤ 1280)
   pub margin-range : site .margin ≤ 20
-  pub motions-range : length (site .motions) ≤ 2000
+  pub motions-range : length (site .motions) ≤ 4000
   pub state-cells : Each (λ (s : State). s .cell < site .cells) (site .states)
   pub motions-good : Each (GoodMotion site) (site .motions)
 
 -- ---- the file of a site
 
 abbrev pub stateField : State → Field
-stateField s = record { tag = stateTag; value = s .cell ∷ s .speed ∷ [] }
+stateField s = record { tag = stateTag; value = put16 (s .cell) ++ (s .speed ∷ []) }
 
 abbrev pub sweepBytes : List Sweep → List ℕ
 sweepBytes [] = []
-sweepBytes (w ∷ ws) = w .cell ∷ w .first ∷ w .last ∷ sweepBytes ws
+sweepBytes (w ∷ ws) = put16 (w .cell) ++ (w .first ∷ w .last ∷ sweepBytes ws)
 
 abbrev pub motionField : Motion → Field
 motionField m = record { tag = motionTag; value = put16 (m .from) ++ (put16 (m .to) ++ (m .span ∷ sweepBytes (m .sweeps))) }
 
 abbrev pub headField : Site → Field
-headField site = record { tag = headTag; value = put16 (site .horizon) ++ (site .cells ∷ (put16 (length (site .states)) ++ (site .margin ∷ []))) }
+headField site = record { tag = headTag; value = put16 (site .horizon) ++ (put16 (site .cells) ++ (put16 (length (site .states)) ++ (site .margin ∷ []))) }
 
 unfoldable pub fileOf : Site → List ℕ
 fileOf site = fieldsBytes (headField site ∷ (map stateField (site .states) ++ map motionField (site .motions)))

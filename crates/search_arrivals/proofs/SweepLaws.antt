@@ -10,7 +10,7 @@ use lib.Dec.{ltb, eqb}
 use lib.Pow.{pow-pos}
 use lib.ListN.{length, replicate, getD-replicate}
 use borrow.Author.Tests.{ltb-true, ltb-false, eqb-true, eqb-false}
-use Rattle.meaning.specs.Limits.{sweepSize}
+use Rattle.meaning.specs.Limits.{cellLimit, sweepSize}
 use Rattle.meaning.specs.Basics.{all}
 use Rattle.meaning.specs.Site.{Sweep}
 use Rattle.meaning.proofs.BasicsLaws.{decide}
@@ -38,7 +38,7 @@ module _ (g : ℕ → ℕ → Bool) (cells tables b : ℕ) (tab : List ℕ) (rig
       ap (at tab) place ∙ right t c (blockTicks - back + i) there known (omega arith) ∙ ap (ended (g c) (runLength t)) number
 
   -- one run has them all
-  pub sweep-short : (x₀ x : List ℕ) (n back : ℕ) → t < 8 → n ≡ suc t → back ≤ spanLimit
+  pub sweep-short : (x₀ x : List ℕ) (n back : ℕ) → t < 4 → n ≡ suc t → back ≤ spanLimit
       → Narrowed x₀ x (λ (i : ℕ). at tab ((t * cells + c) * windowTicks + (blockTicks - back) + i))
       → Narrowed x₀ x (λ (i : ℕ). ended (g c) n (blockStart b + i - back))
   sweep-short x₀ x n back small e few p =
@@ -74,8 +74,8 @@ module _ (g : ℕ → ℕ → Bool) (cells tables b : ℕ) (tab : List ℕ) (rig
 pub row-room : (t n cells c room : ℕ) → t ≡ tableOf n → c < cells → (tableOf n * cells + cells) * windowWords < room → (t * cells + c) * windowWords + windowWords < room
 row-room t n cells c room e known h = rw e (omega arith)
 
-pub rows-few : (t cells : ℕ) → t < runTables → cells ≤ 255 → t * cells ≤ 2805
-rows-few t cells few small = mul-le-mul {n₁ = t} {m₁ = cells} {n₂ = 11} {m₂ = 255} (omega arith) small
+pub rows-few : (t cells : ℕ) → t < runTables → cells ≤ cellLimit → t * cells ≤ 8000
+rows-few t cells few small = mul-le-mul {n₁ = t} {m₁ = cells} {n₂ = 8} {m₂ = cellLimit} (omega arith) small
 
 -- the table of a sweep is no later than that of the whole span
 pub table-room : (n span cells room : ℕ) → 1 ≤ n → n ≤ suc span → span ≤ spanLimit → (tableOf (suc span) * cells + cells) * windowWords < room → (tableOf n * cells + cells) * windowWords < room

@@ -30,11 +30,11 @@ fn narrow(x: &mut [u64; BLOCK_WORDS], tab: &[u64], r: usize, back: usize)
     }
 }
 
-// A sweep of more than eight ticks: two runs, one up to its end and one from its beginning on.
+// A sweep of more than four ticks: two runs, one up to its end and one from its beginning on.
 fn narrow_long(x: &mut [u64; BLOCK_WORDS], tab: &[u64], cells: usize, w: Sweep, span: usize)
     requires { ⌜ (w .first ≤ w .last) × ((w .last ≤ span) × (span ≤ spanLimit)) ⌝ }
     requires { ⌜ (w .cell < cells) × ((cells ≤ cellLimit) × ((tableOf (suc (w .last) - w .first) * cells + cells) * windowWords < length (now tab))) ⌝ }
-    requires { ⌜ 8 ≤ w .last - w .first ⌝ }
+    requires { ⌜ 4 ≤ w .last - w .first ⌝ }
     ensures { λ _. ⌜ ((g : ℕ → ℕ → Bool) (tables b : ℕ) → tableOf (suc (w .last) - w .first) < tables → Tables g cells tables b (now (tab .entry))
         → Narrowed (now (x .entry)) (now (x .exit)) (λ i. ended (g (w .cell)) (suc (w .last) - w .first) (blockStart b + i - (span - w .last)))) ⌝ }
 {
@@ -54,7 +54,7 @@ fn narrow_sweep(x: &mut [u64; BLOCK_WORDS], tab: &[u64], cells: usize, w: Sweep,
         → Narrowed (now (x .entry)) (now (x .exit)) (λ i. ended (g (w .cell)) (suc (w .last) - w .first) (blockStart b + i - (span - w .last)))) ⌝ }
 {
     let size = (w.last - w.first) as usize;
-    if size < 8 {
+    if size < 4 {
         narrow(x, tab, size * cells + w.cell, span - (w.last as usize));
         return;
     }

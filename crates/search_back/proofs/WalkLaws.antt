@@ -13,7 +13,6 @@ use Rattle.meaning.specs.Site.{Site, motionAt}
 use Rattle.meaning.specs.Board.{Free}
 use Rattle.meaning.specs.Reach.{wordBy}
 use Rattle.meaning.proofs.BasicsLaws.{decide}
-use Rattle.search_sizes.specs.Sizes.{motionRows}
 use Rattle.search_site.specs.Arrays.{toAt}
 use Rattle.search_lists.specs.Lists.{Listed}
 use Rattle.search_lists.proofs.ListLaws.{listed-on, end-to}
@@ -33,10 +32,10 @@ module _ (site : Site) (f : Free) (re : List ℕ) (s t k : ℕ) (ls : List ℕ) 
 
   -- a motion that does not lead to s is a miss
   pub walked-start : (mv : List ℕ) (m : ℕ) → Listed 1 k mv ls → ((i : ℕ) → i < k → toAt mv i ≡ motionAt site i .to)
-      → m ≡ getD ls (motionRows + s) 0 → Walked m
+      → m ≡ getD ls (k + s) 0 → Walked m
   walked-start mv m listed to e i h =
       decide (eqb (toAt mv i) s)
-      (λ u. along-start ls k Miss (getD ls (motionRows + s) 0) m i e (listed-on 1 k mv ls s listed i h (end-to mv i ∙ eqb-true (toAt mv i) s u)))
+      (λ u. along-start ls k Miss (getD ls (k + s) 0) m i e (listed-on 1 k mv ls s listed i h (end-to mv i ∙ eqb-true (toAt mv i) s u)))
       (λ u. inl (sym (move-elsewhere site f re s t i (toAt mv i) (to i h) (eqb-false (toAt mv i) s u))))
 
   -- no motion hits

@@ -1,13 +1,11 @@
 // The back pointer of a pair of state and tick, from the reached pairs and the board.
 use plan_steps::Node;
-use search_sizes::LISTED;
-use search_sizes::MOTIONS;
 use site::Sizes;
 use site_read::Motion;
 use time::Tick;
 ghost use mathlib.Core.Path.{_≡_};
 ghost use mathlib.Core.Bool.{false};
-ghost use Prim.Native.Nat.{ℕ, _*_, _-_, _≤_, _<_};
+ghost use Prim.Native.Nat.{ℕ, _+_, _*_, _-_, _≤_, _<_};
 ghost use lib.ListN.{length};
 ghost use Rattle.meaning.specs.Site.{siteOf};
 ghost use Rattle.meaning.specs.Board.{free};
@@ -94,7 +92,7 @@ fn first_move(
     file: &[u8],
     sizes: Sizes,
     motions: &[u16],
-    lists: &[u16; LISTED],
+    lists: &[u16],
     board: &[u8],
     reached: &[u64],
     s: usize,
@@ -102,11 +100,11 @@ fn first_move(
 ) -> usize
     requires { ⌜ Ready (now file) (length (now board)) sizes × (Motions (sizes .motions) (now motions) × MotionsDecoded (now file) (now motions)) ⌝ }
     requires { ⌜ (s < sizes .states) × ((t ≤ sizes .horizon) × (sizes .states * rowWords ≤ length (now reached))) ⌝ }
-    requires { ⌜ Listed 1 (sizes .motions) (now motions) (now lists) ⌝ }
+    requires { ⌜ Listed 1 (sizes .motions) (now motions) (now lists) × (sizes .motions + sizes .states ≤ length (now lists)) ⌝ }
     ensures { λ r. ⌜ r ≡ wordBy false (firstMove (siteOf (now (file .entry))) (free (siteOf (now (file .entry))) (now (board .entry))) (now (reached .entry)) s t) ⌝ }
 {
     let k = sizes.motions;
-    let mut m = search_lists::listed_at(lists, MOTIONS + s);
+    let mut m = search_lists::listed_at(lists, k + s);
     while m < k {
         if move_hit(file, sizes, motions, board, reached, s, t, m) {
             return m + 3;
@@ -126,7 +124,7 @@ pub fn word_at(
     sizes: Sizes,
     states: &[u16],
     motions: &[u16],
-    lists: &[u16; LISTED],
+    lists: &[u16],
     board: &[u8],
     reached: &[u64],
     tick: usize,
@@ -135,6 +133,7 @@ pub fn word_at(
 ) -> usize
     requires { ⌜ Ready (now file) (length (now board)) sizes × (States (sizes .states) (now states) × StatesDecoded (now file) (now states)) ⌝ }
     requires { ⌜ Motions (sizes .motions) (now motions) × (MotionsDecoded (now file) (now motions) × Listed 1 (sizes .motions) (now motions) (now lists)) ⌝ }
+    requires { ⌜ sizes .motions + sizes .states ≤ length (now lists) ⌝ }
     requires { ⌜ (s < sizes .states) × ((tick ≤ t) × ((t ≤ sizes .horizon) × (sizes .states * rowWords ≤ length (now reached)))) ⌝ }
     ensures { λ r. ⌜ ((start : ℕ) → ReachedTo (siteOf (now (file .entry))) (free (siteOf (now (file .entry))) (now (board .entry))) (node start tick) t (now (reached .entry))
         → r ≡ reachWord (siteOf (now (file .entry))) (free (siteOf (now (file .entry))) (now (board .entry))) (node start tick) (t - tick) s) ⌝ }

@@ -6,31 +6,24 @@ use mathlib.Core.Path.{_≡_, refl, ap, _∙_}
 use mathlib.Core.Bool.{Bool}
 use mathlib.Core.List.{List}
 use lib.Dec.{eqb}
-use lib.ListN.{length, getD, replicate, getD-replicate}
+use lib.ListN.{length, getD}
 use borrow.Author.Tests.{eqb-true, eqb-false, eq-eqb, ne-eqb}
 use Rattle.meaning.proofs.BasicsLaws.{decide}
-use Rattle.search_sizes.specs.Sizes.{stateRows, motionRows}
 use Rattle.search_ticks.specs.Rows.{Words, total, has}
-use Rattle.search_ticks.proofs.RowLaws.{zeros-at, total-bound}
+use Rattle.search_ticks.proofs.RowLaws.{total-bound}
 use Rattle.search_site.specs.Arrays.{fromAt, Leads}
 use Rattle.search_step.specs.Sets.{Closed, Within, TablesRight, RowsReady}
-use Rattle.search_lists.specs.Lists.{Listed}
+use Rattle.search_lists.specs.Lists.{FirstAre, Listed}
 use Rattle.search_spread.specs.Spread.{Stepped, Tried, StillTried, Progress, more, quiet, UnnotedBut}
 use Rattle.search_fixpoint.specs.Turns.{NoneGrown, inTurn}
 
--- at the start no motion is known, and growth is noted everywhere
-abbrev pub noneKnown : List ℕ
-noneKnown = replicate motionRows 0
-
-abbrev pub allNoted : List ℕ
-allNoted = replicate stateRows 1
-
 module _ (n k : ℕ) (st mv sw : List ℕ) (g : ℕ → ℕ → Bool) (b : ℕ) where
-  ready-start : (al : List ℕ) → RowsReady g k b mv sw noneKnown al
-  ready-start al m lt known i h = absurd (known (zeros-at motionRows m))
+  -- at the start no motion is known, and growth is noted everywhere
+  ready-start : (known al : List ℕ) → FirstAre k 0 known → RowsReady g k b mv sw known al
+  ready-start known al none m lt marked i h = absurd (marked (none m lt))
 
-  tried-start : (l : List ℕ) → n ≤ stateRows → Tried n k st mv sw g b allNoted (has l)
-  tried-start l few s h e = absurd (omega (arith, getD-replicate {A = ℕ} stateRows s 1 0 (omega arith)))
+  tried-start : (noted l : List ℕ) → FirstAre n 1 noted → Tried n k st mv sw g b noted (has l)
+  tried-start noted l all s h e = absurd (omega (arith, all s h))
 
   -- no growth is noted
   tried-closed : (noted l : List ℕ) → Leads n k mv → NoneGrown n noted → Tried n k st mv sw g b noted (has l) → Closed n k st mv sw g b (has l)
@@ -38,12 +31,12 @@ module _ (n k : ℕ) (st mv sw : List ℕ) (g : ℕ → ℕ → Bool) (b : ℕ) 
       (λ s h. c s h (none s h) .0, λ m h. c (fromAt mv m) (leads .from m h) (none (fromAt mv m) (leads .from m h)) .1 m h refl)
 
 -- all steps from the start on are done, and no growth is noted
-pub settled : {cells n k b : ℕ} {st mv sw tab al₀ l₀ known al l : List ℕ} (ls noted : List ℕ) → n ≤ stateRows → Leads n k mv → NoneGrown n noted
-    → Stepped cells n k b st mv sw tab noneKnown al₀ l₀ known al l (λ g. Closed n k st mv sw g b) (StillTried n k st mv sw ls b allNoted l₀ noted l)
+pub settled : {cells n k b : ℕ} {st mv sw tab known₀ al₀ l₀ known al l : List ℕ} (ls noted₀ noted : List ℕ) → FirstAre k 0 known₀ → FirstAre n 1 noted₀ → Leads n k mv → NoneGrown n noted
+    → Stepped cells n k b st mv sw tab known₀ al₀ l₀ known al l (λ g. Closed n k st mv sw g b) (StillTried n k st mv sw ls b noted₀ l₀ noted l)
     → (g : ℕ → ℕ → Bool) → TablesRight g cells n k b st mv sw tab → Listed 0 k mv ls → Within (Closed n k st mv sw g b) l₀ l × Closed n k st mv sw g b (has l)
-settled {n = n} {k = k} {b = b} {st = st} {mv = mv} {sw = sw} {al₀ = al₀} {l₀ = l₀} {l = l} ls noted few leads none steps g right all =
-    let (ready, (within, tried)) = steps .right g right (ready-start n k st mv sw g b al₀) in
-    (within, tried-closed n k st mv sw g b noted l leads none (tried all (tried-start n k st mv sw g b l₀ few)))
+settled {n = n} {k = k} {b = b} {st = st} {mv = mv} {sw = sw} {known₀ = known₀} {al₀ = al₀} {l₀ = l₀} {l = l} ls noted₀ noted unknown every leads none steps g right all =
+    let (ready, (within, tried)) = steps .right g right (ready-start n k st mv sw g b known₀ al₀ unknown) in
+    (within, tried-closed n k st mv sw g b noted l leads none (tried all (tried-start n k st mv sw g b noted₀ l₀ every)))
 
 pub none-more : (noted : List ℕ) (s : ℕ) → NoneGrown s noted → getD noted s 0 ≡ 0 → NoneGrown (s + 1) noted
 none-more noted s h e x lt =

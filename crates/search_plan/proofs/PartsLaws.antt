@@ -23,17 +23,17 @@ use Rattle.site.specs.declared.Sizes.{Sizes}
 use Rattle.site.specs.declared.Trip.{Trip}
 use Rattle.board_ticks.specs.Runs.{Row}
 use Rattle.light_write.specs.Codes.{stepsIn}
-use Rattle.search_sizes.specs.Sizes.{blockTicks, rowWords, blockWords, windowWords, stateNumbers, motionNumbers}
+use Rattle.search_sizes.specs.Sizes.{blockTicks, rowWords, blockWords, windowWords}
 use Rattle.search_ticks.specs.Bits.{bit}
 use Rattle.search_ticks.specs.Rows.{at, has}
 use Rattle.search_ticks.proofs.RowLaws.{zeros-at, zero-bit}
 use Rattle.search_runs.specs.Runs.{tableOf}
 use Rattle.search_runs.proofs.LengthLaws.{table-mono}
-use Rattle.search_site.specs.Arrays.{cellAt, spanAt, placeAt, countAt, States, Motions}
+use Rattle.search_site.specs.Arrays.{cellAt, spanAt, placeAt, countAt, Motions}
 use Rattle.search_site.specs.Decoded.{SweepsIn, StatesDecoded, MotionsDecoded}
 use Rattle.search_site.proofs.DecodedLaws.{well, states-fit, cells-below, motions-fit, motions-lead, sweeps-fit, decoded}
 use Rattle.search_ends.specs.Ends.{reachedAt, endsOn, First}
-use Rattle.search_reach.specs.Explored.{InArrays, Space, EndsRight}
+use Rattle.search_reach.specs.Explored.{InArrays, Space, Scratch, EndsRight}
 use Rattle.search_reach.proofs.BlockLaws.{never-true}
 use Rattle.search_trace.specs.Turns.{Search, Found}
 use Rattle.search_trace.proofs.FoundLaws.{routeAfter, route-there, route-nowhere, arrival-found}
@@ -91,9 +91,9 @@ module _ (file board : List ℕ) (l : Sizes) (trip : Trip) (q : Asked file l (le
     pub in-time : tick ≤ l .horizon
     pub start-below : start < l .states
     pub goal-below : goal < l .states
-    pub cells-few : l .cells ≤ 255
-    pub states-few : l .states ≤ 256
-    pub motions-few : l .motions ≤ 2000
+    pub cells-few : l .cells ≤ 1000
+    pub states-few : l .states ≤ 1280
+    pub motions-few : l .motions ≤ 4000
 
   pub ranges : Ranges
   ranges =
@@ -112,58 +112,49 @@ module _ (file board : List ℕ) (l : Sizes) (trip : Trip) (q : Asked file l (le
         motions-few = omega (arith, w .motions-range);
       }
 
+  -- ---- the cell of a state, on the board
+
+  cell-below : (s c : ℕ) → s < l .states → c ≡ cellOf site s → c < site .cells
+  cell-below s c below e = omega (arith, e, cell-known site site-well s (omega (arith, same-states)))
+
+  pub row : (s c : ℕ) → s < l .states → c ≡ cellOf site s → Row (length board) (l .horizon) c tick
+  row s c below e =
+      let r = ranges in
+      let size = q .ready .board ∙ ap (λ (n : ℕ). 4 + n * (site .horizon + 1)) same-cells ∙ ap (λ (h : ℕ). 4 + l .cells * (h + 1)) same-horizon in
+      let known : c < l .cells = omega (arith, cell-below s c below e, same-cells) in
+      record {
+        short = r .short;
+        in-time = r .in-time;
+        on-board = omega (arith, mul-le-mul-right (l .horizon + 1) known, suc-mul c (l .horizon + 1));
+      }
+
+  -- whether the start is free, and where the tug can unload, as they are found on the board
+  pub start-is : (c : ℕ) (b : Bool) → c ≡ cellOf site start → ((s : Site) → s .horizon ≡ l .horizon → s .margin ≡ l .margin → c < s .cells → b ≡ free s board c tick) → b ≡ f (cellOf site start) tick
+  start-is c b e says = says site same-horizon same-margin (cell-below start c (ranges .start-below) e) ∙ ap (λ (x : ℕ). f x tick) e
+
+  pub ends-in : (c : ℕ) (ends : List ℕ) → c ≡ cellOf site goal
+      → ((s : Site) (g : ℕ) → s .horizon ≡ l .horizon → s .margin ≡ l .margin → cellOf s g ≡ c → c < s .cells
+      → (t : ℕ) → tick ≤ t → t ≤ l .horizon → getD ends t 0 ≡ cond (canUnload s (free s board) (node g t) dwell) 1 0)
+      → EndsRight site f goal dwell tick ends
+  ends-in c ends e says t lo hi =
+      says site goal same-horizon same-margin (sym e) (cell-below goal c (ranges .goal-below) e) t lo (omega (arith, same-horizon))
+
   -- ---- the site in arrays
 
-  module _ (st : List ℕ) (held : StatesDecoded file st) where
-    pub states-in : stateNumbers ≤ length st → States (l .states) st
-    states-in = states-fit file (q .ready .read) st held (l .states) same-states
+  module _ (mv : List ℕ) (moves : MotionsDecoded file mv) where
+    pub motions-in : l .motions * 5 ≤ length mv → Motions (l .motions) mv
+    motions-in = motions-fit file (q .ready .read) mv moves (l .motions) same-motions
 
-    -- the cell of a state, and that it is on the board
-    pub cell-is : (s c : ℕ) → s < l .states → c ≡ cellAt st s → c ≡ cellOf site s
-    cell-is s c below e = e ∙ held s (omega (arith, same-states)) .0
-
-    pub cell-below : (s c : ℕ) → s < l .states → c ≡ cellAt st s → c < site .cells
-    cell-below s c below e = omega (arith, cell-is s c below e, cell-known site site-well s (omega (arith, same-states)))
-
-    pub row : (s c : ℕ) → s < l .states → c ≡ cellAt st s → Row (length board) (l .horizon) c tick
-    row s c below e =
-        let r = ranges in
-        let size = q .ready .board ∙ ap (λ (n : ℕ). 4 + n * (site .horizon + 1)) same-cells ∙ ap (λ (h : ℕ). 4 + l .cells * (h + 1)) same-horizon in
-        let known : c < l .cells = omega (arith, cell-below s c below e, same-cells) in
+    pub arrays-in : (st : List ℕ) → StatesDecoded file st → l .states * 2 ≤ length st → l .motions * 5 ≤ length mv → InArrays file l st mv
+    arrays-in st held states motions =
         record {
-          short = r .short;
-          in-time = r .in-time;
-          on-board = omega (arith, mul-le-mul-right (l .horizon + 1) known, suc-mul c (l .horizon + 1));
+          states = states-fit file (q .ready .read) st held (l .states) same-states states;
+          motions = motions-in motions;
+          cells = subst (λ (c : ℕ). (s : ℕ) → s < l .states → cellAt st s < c) same-cells (cells-below file (q .ready .read) st held (l .states) same-states);
+          leads = motions-lead file (q .ready .read) mv moves (l .states) (l .motions) same-states same-motions;
+          sweeps = λ m h. subst (λ (c : ℕ). SweepsIn c (spanAt mv m) file (placeAt mv m) (countAt mv m)) same-cells (sweeps-fit file (q .ready .read) mv moves (l .motions) same-motions m h);
+          decoded = decoded file (q .ready .read) st mv held moves (l .states) (l .motions) same-states same-motions;
         }
-
-    -- whether the start is free, and where the tug can unload, as they are found on the board
-    pub start-is : (c : ℕ) (b : Bool) → c ≡ cellAt st start → ((s : Site) → s .horizon ≡ l .horizon → s .margin ≡ l .margin → c < s .cells → b ≡ free s board c tick) → b ≡ f (cellOf site start) tick
-    start-is c b e says =
-        let below = ranges .start-below in
-        says site same-horizon same-margin (cell-below start c below e) ∙ ap (λ (x : ℕ). f x tick) (cell-is start c below e)
-
-    pub ends-in : (c : ℕ) (ends : List ℕ) → c ≡ cellAt st goal
-        → ((s : Site) (g : ℕ) → s .horizon ≡ l .horizon → s .margin ≡ l .margin → cellOf s g ≡ c → c < s .cells
-        → (t : ℕ) → tick ≤ t → t ≤ l .horizon → getD ends t 0 ≡ cond (canUnload s (free s board) (node g t) dwell) 1 0)
-        → EndsRight site f goal dwell tick ends
-    ends-in c ends e says t lo hi =
-        let below = ranges .goal-below in
-        says site goal same-horizon same-margin (sym (cell-is goal c below e)) (cell-below goal c below e) t lo (omega (arith, same-horizon))
-
-    module _ (mv : List ℕ) (moves : MotionsDecoded file mv) where
-      pub motions-in : motionNumbers ≤ length mv → Motions (l .motions) mv
-      motions-in = motions-fit file (q .ready .read) mv moves (l .motions) same-motions
-
-      pub arrays-in : stateNumbers ≤ length st → motionNumbers ≤ length mv → InArrays file l st mv
-      arrays-in states motions =
-          record {
-            states = states-in states;
-            motions = motions-in motions;
-            cells = subst (λ (c : ℕ). (s : ℕ) → s < l .states → cellAt st s < c) same-cells (cells-below file (q .ready .read) st held (l .states) same-states);
-            leads = motions-lead file (q .ready .read) mv moves (l .states) (l .motions) same-states same-motions;
-            sweeps = λ m h. subst (λ (c : ℕ). SweepsIn c (spanAt mv m) file (placeAt mv m) (countAt mv m)) same-cells (sweeps-fit file (q .ready .read) mv moves (l .motions) same-motions m h);
-            decoded = decoded file (q .ready .read) st mv held moves (l .states) (l .motions) same-states same-motions;
-          }
 
   -- ---- no plan at once
 
@@ -236,19 +227,28 @@ enough k longest mv small longer tables is m h =
     omega (arith, ap tableOf more)
 
 module _ (file board : List ℕ) (l : Sizes) (trip : Trip) (st mv ends : List ℕ) (tables : ℕ) (p : Prepared file board l trip st mv ends tables) where
-  -- room for so many rows, motions and states
-  pub space-of : (rows motions states tab al re : ℕ) → tables * l .cells ≤ rows → l .motions ≤ motions → l .states ≤ states → rows ≤ 3060
-      → tab ≡ rows * windowWords + 1 → al ≡ motions * blockWords → re ≡ states * rowWords → Space l mv tables tab al re
-  space-of rows motions states tab al re few-rows few-motions few-states most is-tab is-al is-re =
+  -- room for so many rows
+  pub space-of : (rows tab : ℕ) → tables * l .cells ≤ rows → rows ≤ 9000 → tab ≡ rows * windowWords + 1 → Space l mv tables tab
+  space-of rows tab few-rows most is-tab =
       record {
         some = p .some;
         few = p .few;
         enough = p .enough;
         tab = omega arith;
         small = omega arith;
-        allowed = omega arith;
-        reached = omega arith;
       }
 
-  pub all-rows : tables * l .cells ≤ 3060
-  all-rows = mul-le-mul (p .few) (ranges file board l trip (p .asked) .cells-few)
+  pub all-rows : tables * l .cells ≤ 9000
+  all-rows = mul-le-mul (p .few) (ranges file board l trip (p .possible .asked) .cells-few)
+
+-- room for so many states and motions
+pub scratch-of : (l : Sizes) (states motions ls kn gr al re : ℕ) → l .states ≤ states → l .motions ≤ motions
+    → ls ≡ motions + states → kn ≡ motions → gr ≡ states → al ≡ motions * blockWords → re ≡ states * rowWords → Scratch l ls kn gr al re
+scratch-of l states motions ls kn gr al re few-states few-motions is-ls is-kn is-gr is-al is-re =
+    record {
+      lists = omega arith;
+      known = omega arith;
+      grown = omega arith;
+      allowed = omega arith;
+      reached = omega arith;
+    }

@@ -38,14 +38,18 @@ Planned o path Missing = o ≡ none
 
 -- ---- what is worked out before the search
 
--- the site in arrays, the tables that its motions need, a free start, and where the tug can unload
-pub record Prepared (file board : List ℕ) (l : Sizes) (trip : Trip) (st mv ends : List ℕ) (tables : ℕ) : Type 0 where
+-- a free start, and where the tug can unload
+pub record Possible (file board : List ℕ) (l : Sizes) (trip : Trip) (ends : List ℕ) : Type 0 where
   pub asked : Asked file l (length board) trip
+  pub start-free : free (siteOf file) board (cellOf (siteOf file) (trip .start)) (trip .tick) ≡ true
+  pub ends-right : EndsRight (siteOf file) (free (siteOf file) board) (trip .goal) (trip .dwell) (trip .tick) ends
+
+-- and the site in arrays, and the tables that its motions need
+pub record Prepared (file board : List ℕ) (l : Sizes) (trip : Trip) (st mv ends : List ℕ) (tables : ℕ) : Type 0 where
+  pub possible : Possible file board l trip ends
   pub arrays : InArrays file l st mv
   pub states : StatesDecoded file st
   pub motions : MotionsDecoded file mv
   pub some : 1 ≤ tables
   pub few : tables ≤ runTables
   pub enough : (m : ℕ) → m < l .motions → tableOf (suc (spanAt mv m)) < tables
-  pub start-free : free (siteOf file) board (cellOf (siteOf file) (trip .start)) (trip .tick) ≡ true
-  pub ends-right : EndsRight (siteOf file) (free (siteOf file) board) (trip .goal) (trip .dwell) (trip .tick) ends

@@ -1,29 +1,33 @@
 // The plan with the least arrival from which the tug can unload, on an accepted site, from all parts of the search.
 use light_write::CODE_LIMIT;
-use search_sizes::ALLOWED_WORDS;
-use search_sizes::LARGE_TABLE_WORDS;
-use search_sizes::MIDDLE_ALLOWED_WORDS;
+use search_sizes::BLOCK_WORDS;
 use search_sizes::MIDDLE_MOTIONS;
 use search_sizes::MIDDLE_ROWS;
-use search_sizes::MIDDLE_TABLE_WORDS;
-use search_sizes::REACHED_WORDS;
-use search_sizes::SMALL_ALLOWED_WORDS;
+use search_sizes::MIDDLE_STATES;
+use search_sizes::MOTION_SIZE;
+use search_sizes::MOTIONS;
+use search_sizes::ROW_WORDS;
+use search_sizes::ROWS;
 use search_sizes::SMALL_MOTIONS;
-use search_sizes::SMALL_REACHED_WORDS;
 use search_sizes::SMALL_ROWS;
 use search_sizes::SMALL_STATES;
-use search_sizes::SMALL_TABLE_WORDS;
+use search_sizes::STATE_SIZE;
+use search_sizes::STATES;
 use search_sizes::TICKS;
+use search_sizes::WIDE_MOTIONS;
+use search_sizes::WIDE_ROWS;
+use search_sizes::WIDE_STATES;
+use search_sizes::WINDOW_WORDS;
 use site::Sizes;
 use site::Trip;
 ghost use mathlib.Core.Path.{_≡_};
 ghost use mathlib.Core.Bool.{false};
 ghost use Prim.Native.Nat.{ℕ, _*_, _≤_};
 ghost use lib.ListN.{length};
-ghost use Rattle.search_sizes.specs.Sizes.{smallRows, smallMotions, smallStates, middleRows, middleMotions};
+ghost use Rattle.search_sizes.specs.Sizes.{smallRows, smallMotions, smallStates, middleRows, middleMotions, middleStates, wideRows, wideMotions, wideStates};
 ghost use Rattle.search_ticks.specs.Rows.{at};
-ghost use Rattle.search_reach.specs.Explored.{Space};
-ghost use Rattle.search_plan.specs.Planned.{Asked, routeOn, Planned, Prepared};
+ghost use Rattle.search_reach.specs.Explored.{Space, Scratch};
+ghost use Rattle.search_plan.specs.Planned.{Asked, routeOn, Planned, Possible, Prepared};
 
 // A plan's number of steps and its arrival, or that there is none.
 pub enum Traced {
@@ -37,18 +41,22 @@ fn search_in(
     sizes: Sizes,
     board: &[u8],
     trip: Trip,
+    ends: &[u8; TICKS],
     states: &[u16],
     motions: &[u16],
-    ends: &[u8; TICKS],
     tables: usize,
-    tab: &mut [u64],
+    lists: &mut [u16],
+    known: &mut [u8],
+    grown: &mut [u64],
     allowed: &mut [u64],
     reached: &mut [u64],
+    tab: &mut [u64],
     path: &mut [u16; CODE_LIMIT],
 ) -> Traced
     requires { ⌜ Prepared (now file) (now board) sizes trip (now states) (now motions) (now ends) tables ⌝ }
-    requires { ⌜ Space sizes (now motions) tables (length (now tab)) (length (now allowed)) (length (now reached)) ⌝ }
-    requires { ⌜ ((j : ℕ) → at (now tab) j ≡ false) × ((j : ℕ) → at (now reached) j ≡ false) ⌝ }
+    requires { ⌜ Space sizes (now motions) tables (length (now tab)) × ((j : ℕ) → at (now tab) j ≡ false) ⌝ }
+    requires { ⌜ Scratch sizes (length (now lists)) (length (now known)) (length (now grown)) (length (now allowed)) (length (now reached)) ⌝ }
+    requires { ⌜ ((j : ℕ) → at (now reached) j ≡ false) ⌝ }
     ensures { λ r. ⌜ Planned (routeOn (now (file .entry)) (now (board .entry)) trip) (now (path .exit)) r ⌝ }
 {
     let tick = trip.tick as usize;
@@ -64,9 +72,12 @@ fn search_in(
         trip.start as usize,
         tick,
         goal,
-        tab,
+        lists,
+        known,
+        grown,
         allowed,
         reached,
+        tab,
     );
     if sizes.horizon < arrival {
         return Traced::Missing;
@@ -76,6 +87,7 @@ fn search_in(
         sizes,
         states,
         motions,
+        lists,
         board,
         reached,
         tick,
@@ -86,162 +98,482 @@ fn search_in(
     Traced::Steps(count, arrival)
 }
 
-// ---- the tables, in three sizes
+// ---- the tables of runs, in four sizes
 
-fn search_small(
+// One word more than the rows have, which a shift by nothing reads.
+fn rows_small(
     file: &[u8],
     sizes: Sizes,
     board: &[u8],
     trip: Trip,
+    ends: &[u8; TICKS],
     states: &[u16],
     motions: &[u16],
-    ends: &[u8; TICKS],
     tables: usize,
+    lists: &mut [u16],
+    known: &mut [u8],
+    grown: &mut [u64],
+    allowed: &mut [u64],
+    reached: &mut [u64],
     path: &mut [u16; CODE_LIMIT],
 ) -> Traced
     requires { ⌜ Prepared (now file) (now board) sizes trip (now states) (now motions) (now ends) tables ⌝ }
-    requires { ⌜ (tables * sizes .cells ≤ smallRows) × ((sizes .motions ≤ smallMotions) × (sizes .states ≤ smallStates)) ⌝ }
+    requires { ⌜ tables * sizes .cells ≤ smallRows ⌝ }
+    requires { ⌜ Scratch sizes (length (now lists)) (length (now known)) (length (now grown)) (length (now allowed)) (length (now reached)) ⌝ }
+    requires { ⌜ ((j : ℕ) → at (now reached) j ≡ false) ⌝ }
     ensures { λ r. ⌜ Planned (routeOn (now (file .entry)) (now (board .entry)) trip) (now (path .exit)) r ⌝ }
 {
-    let mut tab = [0u64; SMALL_TABLE_WORDS];
-    let mut allowed = [0u64; SMALL_ALLOWED_WORDS];
-    let mut reached = [0u64; SMALL_REACHED_WORDS];
+    let mut tab = [0u64; SMALL_ROWS * WINDOW_WORDS + 1];
     search_in(
         file,
         sizes,
         board,
         trip,
+        ends,
         states,
         motions,
-        ends,
         tables,
+        lists,
+        known,
+        grown,
+        allowed,
+        reached,
         &mut tab,
+        path,
+    )
+}
+
+fn rows_middle(
+    file: &[u8],
+    sizes: Sizes,
+    board: &[u8],
+    trip: Trip,
+    ends: &[u8; TICKS],
+    states: &[u16],
+    motions: &[u16],
+    tables: usize,
+    lists: &mut [u16],
+    known: &mut [u8],
+    grown: &mut [u64],
+    allowed: &mut [u64],
+    reached: &mut [u64],
+    path: &mut [u16; CODE_LIMIT],
+) -> Traced
+    requires { ⌜ Prepared (now file) (now board) sizes trip (now states) (now motions) (now ends) tables ⌝ }
+    requires { ⌜ tables * sizes .cells ≤ middleRows ⌝ }
+    requires { ⌜ Scratch sizes (length (now lists)) (length (now known)) (length (now grown)) (length (now allowed)) (length (now reached)) ⌝ }
+    requires { ⌜ ((j : ℕ) → at (now reached) j ≡ false) ⌝ }
+    ensures { λ r. ⌜ Planned (routeOn (now (file .entry)) (now (board .entry)) trip) (now (path .exit)) r ⌝ }
+{
+    let mut tab = [0u64; MIDDLE_ROWS * WINDOW_WORDS + 1];
+    search_in(
+        file,
+        sizes,
+        board,
+        trip,
+        ends,
+        states,
+        motions,
+        tables,
+        lists,
+        known,
+        grown,
+        allowed,
+        reached,
+        &mut tab,
+        path,
+    )
+}
+
+fn rows_wide(
+    file: &[u8],
+    sizes: Sizes,
+    board: &[u8],
+    trip: Trip,
+    ends: &[u8; TICKS],
+    states: &[u16],
+    motions: &[u16],
+    tables: usize,
+    lists: &mut [u16],
+    known: &mut [u8],
+    grown: &mut [u64],
+    allowed: &mut [u64],
+    reached: &mut [u64],
+    path: &mut [u16; CODE_LIMIT],
+) -> Traced
+    requires { ⌜ Prepared (now file) (now board) sizes trip (now states) (now motions) (now ends) tables ⌝ }
+    requires { ⌜ tables * sizes .cells ≤ wideRows ⌝ }
+    requires { ⌜ Scratch sizes (length (now lists)) (length (now known)) (length (now grown)) (length (now allowed)) (length (now reached)) ⌝ }
+    requires { ⌜ ((j : ℕ) → at (now reached) j ≡ false) ⌝ }
+    ensures { λ r. ⌜ Planned (routeOn (now (file .entry)) (now (board .entry)) trip) (now (path .exit)) r ⌝ }
+{
+    let mut tab = [0u64; WIDE_ROWS * WINDOW_WORDS + 1];
+    search_in(
+        file,
+        sizes,
+        board,
+        trip,
+        ends,
+        states,
+        motions,
+        tables,
+        lists,
+        known,
+        grown,
+        allowed,
+        reached,
+        &mut tab,
+        path,
+    )
+}
+
+fn rows_most(
+    file: &[u8],
+    sizes: Sizes,
+    board: &[u8],
+    trip: Trip,
+    ends: &[u8; TICKS],
+    states: &[u16],
+    motions: &[u16],
+    tables: usize,
+    lists: &mut [u16],
+    known: &mut [u8],
+    grown: &mut [u64],
+    allowed: &mut [u64],
+    reached: &mut [u64],
+    path: &mut [u16; CODE_LIMIT],
+) -> Traced
+    requires { ⌜ Prepared (now file) (now board) sizes trip (now states) (now motions) (now ends) tables ⌝ }
+    requires { ⌜ Scratch sizes (length (now lists)) (length (now known)) (length (now grown)) (length (now allowed)) (length (now reached)) ⌝ }
+    requires { ⌜ ((j : ℕ) → at (now reached) j ≡ false) ⌝ }
+    ensures { λ r. ⌜ Planned (routeOn (now (file .entry)) (now (board .entry)) trip) (now (path .exit)) r ⌝ }
+{
+    let mut tab = [0u64; ROWS * WINDOW_WORDS + 1];
+    search_in(
+        file,
+        sizes,
+        board,
+        trip,
+        ends,
+        states,
+        motions,
+        tables,
+        lists,
+        known,
+        grown,
+        allowed,
+        reached,
+        &mut tab,
+        path,
+    )
+}
+
+// The smallest of them with room for the tables.
+fn search_rows(
+    file: &[u8],
+    sizes: Sizes,
+    board: &[u8],
+    trip: Trip,
+    ends: &[u8; TICKS],
+    states: &[u16],
+    motions: &[u16],
+    tables: usize,
+    lists: &mut [u16],
+    known: &mut [u8],
+    grown: &mut [u64],
+    allowed: &mut [u64],
+    reached: &mut [u64],
+    path: &mut [u16; CODE_LIMIT],
+) -> Traced
+    requires { ⌜ Prepared (now file) (now board) sizes trip (now states) (now motions) (now ends) tables ⌝ }
+    requires { ⌜ Scratch sizes (length (now lists)) (length (now known)) (length (now grown)) (length (now allowed)) (length (now reached)) ⌝ }
+    requires { ⌜ ((j : ℕ) → at (now reached) j ≡ false) ⌝ }
+    ensures { λ r. ⌜ Planned (routeOn (now (file .entry)) (now (board .entry)) trip) (now (path .exit)) r ⌝ }
+{
+    let rows = tables * sizes.cells;
+    if rows <= SMALL_ROWS {
+        return rows_small(
+            file,
+            sizes,
+            board,
+            trip,
+            ends,
+            states,
+            motions,
+            tables,
+            lists,
+            known,
+            grown,
+            allowed,
+            reached,
+            path,
+        );
+    }
+    if rows <= MIDDLE_ROWS {
+        return rows_middle(
+            file,
+            sizes,
+            board,
+            trip,
+            ends,
+            states,
+            motions,
+            tables,
+            lists,
+            known,
+            grown,
+            allowed,
+            reached,
+            path,
+        );
+    }
+    if rows <= WIDE_ROWS {
+        return rows_wide(
+            file,
+            sizes,
+            board,
+            trip,
+            ends,
+            states,
+            motions,
+            tables,
+            lists,
+            known,
+            grown,
+            allowed,
+            reached,
+            path,
+        );
+    }
+    rows_most(
+        file,
+        sizes,
+        board,
+        trip,
+        ends,
+        states,
+        motions,
+        tables,
+        lists,
+        known,
+        grown,
+        allowed,
+        reached,
+        path,
+    )
+}
+
+// ---- what is kept of the states and motions, in four sizes
+
+// The site in arrays, and then the tables of runs that its longest motion needs.
+fn search_decoded(
+    file: &[u8],
+    sizes: Sizes,
+    board: &[u8],
+    trip: Trip,
+    ends: &[u8; TICKS],
+    states: &mut [u16],
+    motions: &mut [u16],
+    lists: &mut [u16],
+    known: &mut [u8],
+    grown: &mut [u64],
+    allowed: &mut [u64],
+    reached: &mut [u64],
+    path: &mut [u16; CODE_LIMIT],
+) -> Traced
+    requires { ⌜ Possible (now file) (now board) sizes trip (now ends) ⌝ }
+    requires { ⌜ (sizes .states * 2 ≤ length (now states)) × (sizes .motions * 5 ≤ length (now motions)) ⌝ }
+    requires { ⌜ Scratch sizes (length (now lists)) (length (now known)) (length (now grown)) (length (now allowed)) (length (now reached)) ⌝ }
+    requires { ⌜ ((j : ℕ) → at (now reached) j ≡ false) ⌝ }
+    ensures { λ r. ⌜ Planned (routeOn (now (file .entry)) (now (board .entry)) trip) (now (path .exit)) r ⌝ }
+{
+    search_site::decode_states(file, sizes.states, states);
+    search_site::decode_motions(file, sizes.start, sizes.motions, motions);
+    let longest = search_arrivals::longest_span(motions, sizes.motions);
+    let tables = search_runs::table_of(longest + 1) + 1;
+    search_rows(
+        file,
+        sizes,
+        board,
+        trip,
+        ends,
+        states,
+        motions,
+        tables,
+        lists,
+        known,
+        grown,
+        allowed,
+        reached,
+        path,
+    )
+}
+
+fn site_small(
+    file: &[u8],
+    sizes: Sizes,
+    board: &[u8],
+    trip: Trip,
+    ends: &[u8; TICKS],
+    path: &mut [u16; CODE_LIMIT],
+) -> Traced
+    requires { ⌜ Possible (now file) (now board) sizes trip (now ends) ⌝ }
+    requires { ⌜ (sizes .states ≤ smallStates) × (sizes .motions ≤ smallMotions) ⌝ }
+    ensures { λ r. ⌜ Planned (routeOn (now (file .entry)) (now (board .entry)) trip) (now (path .exit)) r ⌝ }
+{
+    let mut states = [0u16; SMALL_STATES * STATE_SIZE];
+    let mut motions = [0u16; SMALL_MOTIONS * MOTION_SIZE];
+    let mut lists = [0u16; SMALL_MOTIONS + SMALL_STATES];
+    let mut known = [0u8; SMALL_MOTIONS];
+    let mut grown = [0u64; SMALL_STATES];
+    let mut allowed = [0u64; SMALL_MOTIONS * BLOCK_WORDS];
+    let mut reached = [0u64; SMALL_STATES * ROW_WORDS];
+    search_decoded(
+        file,
+        sizes,
+        board,
+        trip,
+        ends,
+        &mut states,
+        &mut motions,
+        &mut lists,
+        &mut known,
+        &mut grown,
         &mut allowed,
         &mut reached,
         path,
     )
 }
 
-fn search_middle(
+fn site_middle(
     file: &[u8],
     sizes: Sizes,
     board: &[u8],
     trip: Trip,
-    states: &[u16],
-    motions: &[u16],
     ends: &[u8; TICKS],
-    tables: usize,
     path: &mut [u16; CODE_LIMIT],
 ) -> Traced
-    requires { ⌜ Prepared (now file) (now board) sizes trip (now states) (now motions) (now ends) tables ⌝ }
-    requires { ⌜ (tables * sizes .cells ≤ middleRows) × (sizes .motions ≤ middleMotions) ⌝ }
+    requires { ⌜ Possible (now file) (now board) sizes trip (now ends) ⌝ }
+    requires { ⌜ (sizes .states ≤ middleStates) × (sizes .motions ≤ middleMotions) ⌝ }
     ensures { λ r. ⌜ Planned (routeOn (now (file .entry)) (now (board .entry)) trip) (now (path .exit)) r ⌝ }
 {
-    let mut tab = [0u64; MIDDLE_TABLE_WORDS];
-    let mut allowed = [0u64; MIDDLE_ALLOWED_WORDS];
-    let mut reached = [0u64; REACHED_WORDS];
-    search_in(
+    let mut states = [0u16; MIDDLE_STATES * STATE_SIZE];
+    let mut motions = [0u16; MIDDLE_MOTIONS * MOTION_SIZE];
+    let mut lists = [0u16; MIDDLE_MOTIONS + MIDDLE_STATES];
+    let mut known = [0u8; MIDDLE_MOTIONS];
+    let mut grown = [0u64; MIDDLE_STATES];
+    let mut allowed = [0u64; MIDDLE_MOTIONS * BLOCK_WORDS];
+    let mut reached = [0u64; MIDDLE_STATES * ROW_WORDS];
+    search_decoded(
         file,
         sizes,
         board,
         trip,
-        states,
-        motions,
         ends,
-        tables,
-        &mut tab,
+        &mut states,
+        &mut motions,
+        &mut lists,
+        &mut known,
+        &mut grown,
         &mut allowed,
         &mut reached,
         path,
     )
 }
 
-fn search_large(
+fn site_wide(
     file: &[u8],
     sizes: Sizes,
     board: &[u8],
     trip: Trip,
-    states: &[u16],
-    motions: &[u16],
     ends: &[u8; TICKS],
-    tables: usize,
     path: &mut [u16; CODE_LIMIT],
 ) -> Traced
-    requires { ⌜ Prepared (now file) (now board) sizes trip (now states) (now motions) (now ends) tables ⌝ }
+    requires { ⌜ Possible (now file) (now board) sizes trip (now ends) ⌝ }
+    requires { ⌜ (sizes .states ≤ wideStates) × (sizes .motions ≤ wideMotions) ⌝ }
     ensures { λ r. ⌜ Planned (routeOn (now (file .entry)) (now (board .entry)) trip) (now (path .exit)) r ⌝ }
 {
-    let mut tab = [0u64; LARGE_TABLE_WORDS];
-    let mut allowed = [0u64; ALLOWED_WORDS];
-    let mut reached = [0u64; REACHED_WORDS];
-    search_in(
+    let mut states = [0u16; WIDE_STATES * STATE_SIZE];
+    let mut motions = [0u16; WIDE_MOTIONS * MOTION_SIZE];
+    let mut lists = [0u16; WIDE_MOTIONS + WIDE_STATES];
+    let mut known = [0u8; WIDE_MOTIONS];
+    let mut grown = [0u64; WIDE_STATES];
+    let mut allowed = [0u64; WIDE_MOTIONS * BLOCK_WORDS];
+    let mut reached = [0u64; WIDE_STATES * ROW_WORDS];
+    search_decoded(
         file,
         sizes,
         board,
         trip,
-        states,
-        motions,
         ends,
-        tables,
-        &mut tab,
+        &mut states,
+        &mut motions,
+        &mut lists,
+        &mut known,
+        &mut grown,
         &mut allowed,
         &mut reached,
         path,
     )
 }
 
-// The plan, by a search in the smallest tables with room for it.
+fn site_most(
+    file: &[u8],
+    sizes: Sizes,
+    board: &[u8],
+    trip: Trip,
+    ends: &[u8; TICKS],
+    path: &mut [u16; CODE_LIMIT],
+) -> Traced
+    requires { ⌜ Possible (now file) (now board) sizes trip (now ends) ⌝ }
+    ensures { λ r. ⌜ Planned (routeOn (now (file .entry)) (now (board .entry)) trip) (now (path .exit)) r ⌝ }
+{
+    let mut states = [0u16; STATES * STATE_SIZE];
+    let mut motions = [0u16; MOTIONS * MOTION_SIZE];
+    let mut lists = [0u16; MOTIONS + STATES];
+    let mut known = [0u8; MOTIONS];
+    let mut grown = [0u64; STATES];
+    let mut allowed = [0u64; MOTIONS * BLOCK_WORDS];
+    let mut reached = [0u64; STATES * ROW_WORDS];
+    search_decoded(
+        file,
+        sizes,
+        board,
+        trip,
+        ends,
+        &mut states,
+        &mut motions,
+        &mut lists,
+        &mut known,
+        &mut grown,
+        &mut allowed,
+        &mut reached,
+        path,
+    )
+}
+
+// The smallest of them with room for the site.
 fn search_sized(
     file: &[u8],
     sizes: Sizes,
     board: &[u8],
     trip: Trip,
-    states: &[u16],
-    motions: &[u16],
     ends: &[u8; TICKS],
-    tables: usize,
     path: &mut [u16; CODE_LIMIT],
 ) -> Traced
-    requires { ⌜ Prepared (now file) (now board) sizes trip (now states) (now motions) (now ends) tables ⌝ }
+    requires { ⌜ Possible (now file) (now board) sizes trip (now ends) ⌝ }
     ensures { λ r. ⌜ Planned (routeOn (now (file .entry)) (now (board .entry)) trip) (now (path .exit)) r ⌝ }
 {
-    let rows = tables * sizes.cells;
-    if (rows <= SMALL_ROWS) & ((sizes.motions <= SMALL_MOTIONS) & (sizes.states <= SMALL_STATES)) {
-        return search_small(
-            file,
-            sizes,
-            board,
-            trip,
-            states,
-            motions,
-            ends,
-            tables,
-            path,
-        );
+    if (sizes.states <= SMALL_STATES) & (sizes.motions <= SMALL_MOTIONS) {
+        return site_small(file, sizes, board, trip, ends, path);
     }
-    if (rows <= MIDDLE_ROWS) & (sizes.motions <= MIDDLE_MOTIONS) {
-        return search_middle(
-            file,
-            sizes,
-            board,
-            trip,
-            states,
-            motions,
-            ends,
-            tables,
-            path,
-        );
+    if (sizes.states <= MIDDLE_STATES) & (sizes.motions <= MIDDLE_MOTIONS) {
+        return site_middle(file, sizes, board, trip, ends, path);
     }
-    search_large(
-        file,
-        sizes,
-        board,
-        trip,
-        states,
-        motions,
-        ends,
-        tables,
-        path,
-    )
+    if (sizes.states <= WIDE_STATES) & (sizes.motions <= WIDE_MOTIONS) {
+        return site_wide(file, sizes, board, trip, ends, path);
+    }
+    site_most(file, sizes, board, trip, ends, path)
 }
 
 // The plan with the least arrival from which the tug can unload, its steps in `path`. Where the start is held, or the tug can nowhere unload
@@ -256,13 +588,12 @@ pub fn search(
     requires { ⌜ Asked (now file) sizes (length (now board)) trip ⌝ }
     ensures { λ r. ⌜ Planned (routeOn (now (file .entry)) (now (board .entry)) trip) (now (path .exit)) r ⌝ }
 {
-    let states = search_site::decode_states(file, sizes.states);
     let tick = trip.tick as usize;
-    let cell = search_site::cell_of(&states, sizes.states, trip.start as usize);
+    let cell = site_read::state_cell(file, trip.start as usize);
     if !board_ticks::is_free(board, sizes.horizon, sizes.margin, cell, tick) {
         return Traced::Missing;
     }
-    let dock = search_site::cell_of(&states, sizes.states, trip.goal as usize);
+    let dock = site_read::state_cell(file, trip.goal as usize);
     let ends = search_ends::ends_of(
         board,
         sizes.horizon,
@@ -274,18 +605,5 @@ pub fn search(
     if !search_ends::some_end(&ends, tick, sizes.horizon) {
         return Traced::Missing;
     }
-    let motions = search_site::decode_motions(file, sizes.start, sizes.motions);
-    let longest = search_arrivals::longest_span(&motions, sizes.motions);
-    let tables = search_runs::table_of(longest + 1) + 1;
-    search_sized(
-        file,
-        sizes,
-        board,
-        trip,
-        &states,
-        &motions,
-        &ends,
-        tables,
-        path,
-    )
+    search_sized(file, sizes, board, trip, &ends, path)
 }

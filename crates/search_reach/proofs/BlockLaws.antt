@@ -24,7 +24,7 @@ use Rattle.search_runs.specs.Runs.{ended, runLength, tableOf, Shifted, Halves, 
 use Rattle.search_runs.proofs.EndedLaws.{ended-at}
 use Rattle.search_site.specs.Arrays.{spanAt}
 use Rattle.search_step.specs.Sets.{Room, TablesRight}
-use Rattle.search_reach.specs.Explored.{freeFrom, InArrays, Space}
+use Rattle.search_reach.specs.Explored.{freeFrom, InArrays, Space, Scratch}
 use Rattle.search_reach.proofs.RightLaws.{ends-free}
 
 -- ---- a test that never holds
@@ -72,7 +72,7 @@ first-freed site cells horizon margin b first board tab₀ tab same-cells same-h
 
 run-pos : (t : ℕ) → 1 ≤ runLength t
 unfolding runLength
-run-pos t = decide (ltb t 8) (λ e. rw e (omega arith)) (λ e. rw e (pow-pos (t - 4)))
+run-pos t = decide (ltb t 4) (λ e. rw e (omega arith)) (λ e. rw e (pow-pos (t - 1)))
 
 pub blank-ahead : (f : Free) (cells tables first : ℕ) (tab : List ℕ) → ((j : ℕ) → at tab j ≡ false) → Ahead (freeFrom f first) cells tables first tab
 blank-ahead f cells tables first tab blank t c i h lt small =
@@ -89,8 +89,8 @@ blank-ahead f cells tables first tab blank t c i h lt small =
 
 -- ---- room
 
-pub room-made : (l : Sizes) (mv tab : List ℕ) (tables al re : ℕ) → l .cells ≤ 255 → Space l mv tables (length tab) al re → Room (l .cells) (l .motions) mv tab
-room-made l mv tab tables al re few space =
+pub room-made : (l : Sizes) (mv tab : List ℕ) (tables : ℕ) → l .cells ≤ 1000 → Space l mv tables (length tab) → Room (l .cells) (l .motions) mv tab
+room-made l mv tab tables few space =
     record {
       few = few;
       first = omega (arith, mul-le-mul-right (l .cells) (space .some), space .tab);
@@ -98,14 +98,16 @@ room-made l mv tab tables al re few space =
     }
 
 -- the same of lists that have kept their lengths
-pub space-kept : (l : Sizes) (mv : List ℕ) (tables tab al re tab′ al′ re′ : ℕ) → Space l mv tables tab al re → tab′ ≡ tab → al′ ≡ al → re′ ≡ re → Space l mv tables tab′ al′ re′
-space-kept l mv tables tab al re tab′ al′ re′ s same-tab same-al same-re =
+pub space-kept : (l : Sizes) (mv : List ℕ) (tables tab tab′ : ℕ) → Space l mv tables tab → tab′ ≡ tab → Space l mv tables tab′
+space-kept l mv tables tab tab′ s same = subst (Space l mv tables) (sym same) s
+
+pub scratch-kept : (l : Sizes) (ls kn gr al re ls′ kn′ gr′ al′ re′ : ℕ) → Scratch l ls kn gr al re
+    → ls′ ≡ ls → kn′ ≡ kn → gr′ ≡ gr → al′ ≡ al → re′ ≡ re → Scratch l ls′ kn′ gr′ al′ re′
+scratch-kept l ls kn gr al re ls′ kn′ gr′ al′ re′ s same-ls same-kn same-gr same-al same-re =
     record {
-      some = s .some;
-      few = s .few;
-      enough = s .enough;
-      tab = omega (arith, s .tab);
-      small = omega (arith, s .small);
+      lists = omega (arith, s .lists);
+      known = omega (arith, s .known);
+      grown = omega (arith, s .grown);
       allowed = omega (arith, s .allowed);
       reached = omega (arith, s .reached);
     }
@@ -119,7 +121,7 @@ pub record Facts (file : List ℕ) (room : ℕ) (l : Sizes) : Type 0 where
   pub horizon : siteOf file .horizon ≡ l .horizon
   pub margin : siteOf file .margin ≡ l .margin
   pub near : l .margin ≤ 20
-  pub few : l .cells ≤ 255
+  pub few : l .cells ≤ 1000
   pub short : l .horizon ≤ 1000
   pub board : 4 + l .cells * (l .horizon + 1) ≤ room
 
@@ -157,9 +159,9 @@ module _ (file board : List ℕ) (l : Sizes) (tables b first : ℕ) (ready : Rea
       (halves-freed g (l .cells) tables b board tab₁ tab₂ (l .horizon) (l .margin) freed (halves-shifted g (l .cells) tables b tab₀ tab₁ shifted ahead))
       (first-freed (siteOf file) (l .cells) (l .horizon) (l .margin) b first board tab₁ tab₂ (q .cells) (q .horizon) (q .margin) late freed)
 
-  pub right-made : (st mv tab : List ℕ) (tab-size al re : ℕ) → InArrays file l st mv → Space l mv tables tab-size al re → Tables g (l .cells) tables b tab
+  pub right-made : (st mv tab : List ℕ) (tab-size : ℕ) → InArrays file l st mv → Space l mv tables tab-size → Tables g (l .cells) tables b tab
       → TablesRight g (l .cells) (l .states) (l .motions) b st mv file tab
-  right-made st mv tab tab-size al re arrays space right =
+  right-made st mv tab tab-size arrays space right =
       record {
         tables = tables;
         some = space .some;

@@ -1,6 +1,6 @@
 -- What the search over blocks is handed: the site in arrays, tables of enough room, and the ticks at which the tug can unload.
 -- Assumes nothing.
-use Prim.Native.Nat.{ℕ, suc, _-_, _*_, _≤_, _<_}
+use Prim.Native.Nat.{ℕ, suc, _+_, _-_, _*_, _≤_, _<_}
 use mathlib.Core.Path.{_≡_}
 use mathlib.Core.Bool.{Bool, cond, _&&_}
 use mathlib.Core.List.{List}
@@ -28,13 +28,19 @@ pub record InArrays (file : List ℕ) (l : Sizes) (st mv : List ℕ) : Type 0 wh
   pub sweeps : Sweeps (l .cells) (l .motions) mv file
   pub decoded : Decoded (siteOf file) (l .states) (l .motions) st mv file
 
--- room for the tables of runs that the motions need and one word more, for a block of each motion, and for a row of each state
-pub record Space (l : Sizes) (mv : List ℕ) (tables tab-size allowed-size reached-size : ℕ) : Type 0 where
+-- room for the tables of runs that the motions need and one word more
+pub record Space (l : Sizes) (mv : List ℕ) (tables tab-size : ℕ) : Type 0 where
   pub some : 1 ≤ tables
   pub few : tables ≤ runTables
   pub enough : (m : ℕ) → m < l .motions → tableOf (suc (spanAt mv m)) < tables
   pub tab : tables * l .cells * windowWords < tab-size
   pub small : tab-size < tableLimit
+
+-- room for what is kept of the motions and states: lists, marks of each, a block of each motion, and a row of each state
+pub record Scratch (l : Sizes) (lists-size known-size grown-size allowed-size reached-size : ℕ) : Type 0 where
+  pub lists : l .motions + l .states ≤ lists-size
+  pub known : l .motions ≤ known-size
+  pub grown : l .states ≤ grown-size
   pub allowed : l .motions * blockWords ≤ allowed-size
   pub reached : l .states * rowWords ≤ reached-size
 

@@ -1,6 +1,5 @@
 // The search over a site in arrays, block by block up to the one in which the tug arrives.
 use search_sizes::BLOCK_TICKS;
-use search_sizes::LISTED;
 use search_sizes::TICKS;
 use site::Sizes;
 ghost use mathlib.Core.Path.{_≡_};
@@ -17,7 +16,7 @@ ghost use Rattle.search_runs.specs.Runs.{Tables, Ahead};
 ghost use Rattle.search_step.specs.Sets.{Closed, Within, Kept};
 ghost use Rattle.search_lists.specs.Lists.{Listed};
 ghost use Rattle.search_ends.specs.Ends.{reachedAt, endsOn, First};
-ghost use Rattle.search_reach.specs.Explored.{freeFrom, InArrays, Space, EndsRight};
+ghost use Rattle.search_reach.specs.Explored.{freeFrom, InArrays, Space, Scratch, EndsRight};
 
 fn least(a: usize, b: usize) -> usize
     ensures { λ r. ⌜ r ≡ min a b ⌝ }
@@ -38,16 +37,20 @@ fn explore_block(
     board: &[u8],
     states: &[u16],
     motions: &[u16],
-    lists: &[u16; LISTED],
+    lists: &[u16],
     tables: usize,
     block: usize,
     tab: &mut [u64],
+    known: &mut [u8],
+    grown: &mut [u64],
     allowed: &mut [u64],
     reached: &mut [u64],
 )
     requires { ⌜ Ready (now file) (length (now board)) sizes × (InArrays (now file) sizes (now states) (now motions) × (block < blocks)) ⌝ }
-    requires { ⌜ Space sizes (now motions) tables (length (now tab)) (length (now allowed)) (length (now reached)) ⌝ }
+    requires { ⌜ Space sizes (now motions) tables (length (now tab)) ⌝ }
+    requires { ⌜ Scratch sizes (length (now lists)) (length (now known)) (length (now grown)) (length (now allowed)) (length (now reached)) ⌝ }
     ensures { λ _. ⌜ (length (now (tab .exit)) ≡ length (now (tab .entry))) × (length (now (allowed .exit)) ≡ length (now (allowed .entry))) ⌝ }
+    ensures { λ _. ⌜ (length (now (known .exit)) ≡ length (now (known .entry))) × (length (now (grown .exit)) ≡ length (now (grown .entry))) ⌝ }
     ensures { λ _. ⌜ Kept block (now (reached .entry)) (now (reached .exit)) ⌝ }
     ensures { λ _. ⌜ ((first : ℕ) → first ≤ block → Listed 0 (sizes .motions) (now (motions .entry)) (now (lists .entry))
         → Ahead (freeFrom (free (siteOf (now (file .entry))) (now (board .entry))) first) (sizes .cells) tables block (now (tab .entry))
@@ -64,8 +67,10 @@ fn explore_block(
         file,
         tab,
         allowed,
+        known,
         reached,
         lists,
+        grown,
         sizes.cells,
         sizes.states,
         sizes.motions,
@@ -74,7 +79,7 @@ fn explore_block(
 }
 
 // The first tick from `tick` on at which the goal is reached and the tug can unload, or the tick after the horizon. The reached pairs up to
-// that tick stand in `reached`. The start's cell is free, and the tables are empty at first.
+// that tick stand in `reached`. The start's cell is free; `tab` and `reached` are empty at first, what the other areas hold does not matter.
 pub fn explore(
     file: &[u8],
     sizes: Sizes,
@@ -86,22 +91,27 @@ pub fn explore(
     start: usize,
     tick: usize,
     goal: usize,
-    tab: &mut [u64],
+    lists: &mut [u16],
+    known: &mut [u8],
+    grown: &mut [u64],
     allowed: &mut [u64],
     reached: &mut [u64],
+    tab: &mut [u64],
 ) -> usize
     requires { ⌜ Ready (now file) (length (now board)) sizes × InArrays (now file) sizes (now states) (now motions) ⌝ }
-    requires { ⌜ Space sizes (now motions) tables (length (now tab)) (length (now allowed)) (length (now reached)) ⌝ }
+    requires { ⌜ Space sizes (now motions) tables (length (now tab)) ⌝ }
+    requires { ⌜ Scratch sizes (length (now lists)) (length (now known)) (length (now grown)) (length (now allowed)) (length (now reached)) ⌝ }
     requires { ⌜ ((j : ℕ) → at (now tab) j ≡ false) × ((j : ℕ) → at (now reached) j ≡ false) ⌝ }
     requires { ⌜ (start < sizes .states) × ((goal < sizes .states) × (tick ≤ sizes .horizon)) ⌝ }
     requires { ⌜ free (siteOf (now file)) (now board) (cellOf (siteOf (now file)) start) tick ≡ true ⌝ }
     ensures { λ r. ⌜ (length (now (reached .exit)) ≡ length (now (reached .entry))) × (tick ≤ r) ⌝ }
+    ensures { λ _. ⌜ length (now (lists .exit)) ≡ length (now (lists .entry)) ⌝ }
     ensures { λ r. ⌜ ((dwell : ℕ) → EndsRight (siteOf (now (file .entry))) (free (siteOf (now (file .entry))) (now (board .entry))) goal dwell tick (now (ends .entry))
         → First (endsOn (siteOf (now (file .entry))) (free (siteOf (now (file .entry))) (now (board .entry))) (node start tick) goal dwell) tick (sizes .horizon + 1) r) ⌝ }
     ensures { λ r. ⌜ (r ≤ sizes .horizon → (s t : ℕ) → t ≤ r
         → has (now (reached .exit)) s (blockTicks + t) ≡ reachedAt (siteOf (now (file .entry))) (free (siteOf (now (file .entry))) (now (board .entry))) (node start tick) s t) ⌝ }
 {
-    let lists = search_lists::lists_of(motions, sizes.motions, 0);
+    search_lists::fill_lists(motions, sizes.motions, sizes.states, 0, lists);
     search_ticks::seed(reached, start, tick);
     let mut block = tick / BLOCK_TICKS;
     while block * BLOCK_TICKS <= sizes.horizon {
@@ -111,10 +121,12 @@ pub fn explore(
             board,
             states,
             motions,
-            &lists,
+            lists,
             tables,
             block,
             tab,
+            known,
+            grown,
             allowed,
             reached,
         );

@@ -17,7 +17,7 @@ unfoldable growing : ℕ → Bool
 growing t =
     ltb (runLength t) (runLength (suc t)) && (leb (runLength (suc t)) (runLength t + runLength t) && leb (runLength (suc t)) (runLength t + 64))
 
-growing-all : allBelow growing 11 ≡ true
+growing-all : allBelow growing 8 ≡ true
 unfolding allBelow growing runLength
 growing-all = refl
 
@@ -29,7 +29,7 @@ pub record Growing (n m : ℕ) : Type 0 where
 pub lengths-grow : (t : ℕ) → suc t < runTables → Growing (runLength t) (runLength (suc t))
 unfolding growing
 lengths-grow t h =
-    let e : growing t ≡ true = below-at growing 11 growing-all t (omega arith) in
+    let e : growing t ≡ true = below-at growing 8 growing-all t (omega arith) in
     let f = and-right (ltb (runLength t) (runLength (suc t))) _ e in
     record {
       longer = ltb-true (runLength t) (runLength (suc t)) (and-left _ _ e);
@@ -78,11 +78,11 @@ table-further (suc k) n pos h =
 pub table-mono : (n m : ℕ) → 1 ≤ n → n ≤ m → m ≤ 256 → tableOf n ≤ tableOf m
 table-mono n m pos few h = let e : n + (m - n) ≡ m = omega arith in rw e at (table-further (m - n) n pos (omega arith))
 
--- up to eight positions there is a table for each length
-pub length-small : (t : ℕ) → t < 8 → runLength t ≡ suc t
+-- up to four positions there is a table for each length
+pub length-small : (t : ℕ) → t < 4 → runLength t ≡ suc t
 unfolding runLength
-length-small t h = rw (lt-ltb t 8 h)
+length-small t h = rw (lt-ltb t 4 h)
 
-pub table-small : (t : ℕ) → t < 8 → tableOf (suc t) ≡ t
+pub table-small : (t : ℕ) → t < 4 → tableOf (suc t) ≡ t
 unfolding tableOf
-table-small t h = let less : suc t - 1 ≡ t = omega arith in rw (lt-ltb (suc t) 9 (omega arith)) less
+table-small t h = let less : suc t - 1 ≡ t = omega arith in rw (lt-ltb (suc t) 5 (omega arith)) less

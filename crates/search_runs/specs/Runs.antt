@@ -16,16 +16,16 @@ ended g zero u = true
 ended g (suc n) u = g (u - n) && ended g n u
 
 abbrev pub runTables : ℕ
-runTables = 12
+runTables = 9
 
--- how long the runs of table t are: 1 to 8, and then 16, 32, 64 and 128
+-- how long the runs of table t are: 1 to 4, and then 8, 16, 32, 64 and 128
 unfoldable pub runLength : ℕ → ℕ
-runLength t = cond (ltb t 8) (suc t) (2 ^ (t - 4))
+runLength t = cond (ltb t 4) (suc t) (2 ^ (t - 1))
 
 -- the table with the longest runs of at most n positions
 unfoldable pub tableOf : ℕ → ℕ
 tableOf n =
-    cond (ltb n 9) (n - 1) (cond (ltb n 16) 7 (cond (ltb n 32) 8 (cond (ltb n 64) 9 (cond (ltb n 128) 10 11))))
+    cond (ltb n 5) (n - 1) (cond (ltb n 8) 3 (cond (ltb n 16) 4 (cond (ltb n 32) 5 (cond (ltb n 64) 6 (cond (ltb n 128) 7 8)))))
 
 -- ---- rows
 

@@ -12,21 +12,24 @@ ghost use Rattle.search_runs.specs.Runs.{runTables, runLength, tableOf, 
 
 // ---- the tables: rows of a block and the one before it, one a cell, table after table
 
-// How many ticks a run of table t has: 1 to 8, and then 16, 32, 64 and 128.
+// How many ticks a run of table t has: 1 to 4, and then 8, 16, 32, 64 and 128.
 pub fn length_of(t: usize) -> usize
     requires { ⌜ t < runTables ⌝ }
     ensures { λ r. ⌜ (r ≡ runLength t) × ((1 ≤ r) × (r ≤ 128)) ⌝ }
 {
-    if t < 8 {
+    if t < 4 {
         return t + 1;
     }
-    if t == 8 {
+    if t == 4 {
+        return 8;
+    }
+    if t == 5 {
         return 16;
     }
-    if t == 9 {
+    if t == 6 {
         return 32;
     }
-    if t == 10 {
+    if t == 7 {
         return 64;
     }
     128
@@ -37,22 +40,25 @@ pub fn table_of(n: usize) -> usize
     requires { ⌜ 1 ≤ n ⌝ }
     ensures { λ r. ⌜ (r ≡ tableOf n) × (r < runTables) ⌝ }
 {
-    if n < 9 {
+    if n < 5 {
         return n - 1;
     }
+    if n < 8 {
+        return 3;
+    }
     if n < 16 {
-        return 7;
+        return 4;
     }
     if n < 32 {
-        return 8;
+        return 5;
     }
     if n < 64 {
-        return 9;
+        return 6;
     }
     if n < 128 {
-        return 10;
+        return 7;
     }
-    11
+    8
 }
 
 // ---- the next block

@@ -40,7 +40,7 @@ module _ (xs : List ℕ) (i : ℕ) (r : ReadMotion.Motion) where
   abbrev four : List ℕ
   four = set three (i + 3) (r .first)
 
-  three-length : length three ≡ length xs
+  pub three-length : length three ≡ length xs
   three-length = length-set (setTwo xs i (r .from) (r .to)) (i + 2) (r .span) ∙ set-two-length xs i (r .from) (r .to)
 
   four-length : length four ≡ length xs

@@ -12,7 +12,6 @@ use Rattle.meaning.specs.WellFormed.{WellFormed}
 use Rattle.meaning.proofs.BasicsLaws.{each-at}
 use Rattle.meaning.proofs.SiteLaws.{read-well, read-passes}
 use Rattle.meaning.proofs.MotionLaws.{good-at, cell-known}
-use Rattle.search_sizes.specs.Sizes.{stateNumbers, motionNumbers}
 use Rattle.site_sweeps.specs.Places.{sweepAt}
 use Rattle.site_sweeps.proofs.Laws.{sweeps-length, sweeps-at}
 use Rattle.site_read.specs.declared.Motion as ReadMotion
@@ -65,7 +64,7 @@ module _ (file : List ℕ) (e : readSite file ≡ accepted (siteOf file)) where
   -- ---- the arrays
 
   module _ (st : List ℕ) (held : StatesDecoded file st) where
-    pub states-fit : (n : ℕ) → n ≡ length (site .states) → stateNumbers ≤ length st → States n st
+    pub states-fit : (n : ℕ) → n ≡ length (site .states) → n * 2 ≤ length st → States n st
     states-fit n p l =
         let few = well .states-range .1 in
         let cells = well .cells-range .1 in
@@ -85,7 +84,7 @@ module _ (file : List ℕ) (e : readSite file ≡ accepted (siteOf file)) where
         omega arith
 
   module _ (mv : List ℕ) (held : MotionsDecoded file mv) where
-    pub motions-fit : (k : ℕ) → k ≡ length (site .motions) → motionNumbers ≤ length mv → Motions k mv
+    pub motions-fit : (k : ℕ) → k ≡ length (site .motions) → k * 5 ≤ length mv → Motions k mv
     motions-fit k p l =
         let few = well .motions-range in
         let states = well .states-range .1 in

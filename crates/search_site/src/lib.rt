@@ -1,15 +1,12 @@
 // The site file in arrays of numbers, as the search takes it: two numbers a state, five a motion. The sweeps stay in the file.
-use search_sizes::MOTION_NUMBERS;
 use search_sizes::MOTION_SIZE;
-use search_sizes::STATE_NUMBERS;
 use search_sizes::STATE_SIZE;
 use site_read::Motion;
 ghost use mathlib.Core.Path.{_≡_};
-ghost use Prim.Native.Nat.{_*_, _<_};
+ghost use Prim.Native.Nat.{_+_, _*_, _≤_, _<_};
 ghost use lib.ListN.{length};
 ghost use Rattle.meaning.specs.Answers.{accepted};
 ghost use Rattle.meaning.specs.Site.{siteOf, readSite};
-ghost use Rattle.search_sizes.specs.Sizes.{stateRows, motionRows};
 ghost use Rattle.site_layout.specs.Laid.{statePlace};
 ghost use Rattle.search_site.specs.Arrays.{States, Motions, cellAt, speedAt, fromAt, toAt, spanAt, placeAt, countAt};
 ghost use Rattle.search_site.specs.Decoded.{StatesDecoded, setTwo, FitsU16, setMotion, MotionsDecoded};
@@ -84,8 +81,8 @@ pub fn count_of(motions: &[u16], k: usize, m: usize) -> usize
 // ---- the arrays, from the file
 
 // Writes the two numbers of the state s.
-fn put_state(states: &mut [u16; STATE_NUMBERS], s: usize, cell: usize, speed: u8)
-    requires { ⌜ (s < stateRows) × (cell < 65536) ⌝ }
+fn put_state(states: &mut [u16], s: usize, cell: usize, speed: u8)
+    requires { ⌜ (s * 2 + 1 < length (now states)) × (cell < 65536) ⌝ }
     ensures { λ _. ⌜ now (states .exit) ≡ setTwo (now (states .entry)) (s * 2) cell speed ⌝ }
 {
     states[s * STATE_SIZE] = cell as u16;
@@ -93,24 +90,24 @@ fn put_state(states: &mut [u16; STATE_NUMBERS], s: usize, cell: usize, speed: u8
 }
 
 // The cell and the speed of each of the `count` states.
-pub fn decode_states(file: &[u8], count: usize) -> [u16; STATE_NUMBERS]
+pub fn decode_states(file: &[u8], count: usize, states: &mut [u16])
     requires { ⌜ (readSite (now file) ≡ accepted (siteOf (now file))) × (count ≡ length (siteOf (now file) .states)) ⌝ }
-    ensures { λ r. ⌜ StatesDecoded (now (file .entry)) r ⌝ }
+    requires { ⌜ count * 2 ≤ length (now states) ⌝ }
+    ensures { λ _. ⌜ StatesDecoded (now (file .entry)) (now (states .exit)) ⌝ }
+    ensures { λ _. ⌜ length (now (states .exit)) ≡ length (now (states .entry)) ⌝ }
 {
-    let mut states = [0u16; STATE_NUMBERS];
     let mut s = 0;
     while s < count {
         let cell = site_read::state_cell(file, s);
         let speed = site_read::state_speed(file, s);
-        put_state(&mut states, s, cell, speed);
+        put_state(states, s, cell, speed);
         s += 1;
     }
-    states
 }
 
 // Writes the five numbers of the motion m.
-fn put_motion(motions: &mut [u16; MOTION_NUMBERS], m: usize, r: Motion)
-    requires { ⌜ (m < motionRows) × FitsU16 r ⌝ }
+fn put_motion(motions: &mut [u16], m: usize, r: Motion)
+    requires { ⌜ (m * 5 + 4 < length (now motions)) × FitsU16 r ⌝ }
     ensures { λ _. ⌜ now (motions .exit) ≡ setMotion (now (motions .entry)) (m * 5) r ⌝ }
 {
     motions[m * MOTION_SIZE] = r.from as u16;
@@ -121,17 +118,17 @@ fn put_motion(motions: &mut [u16; MOTION_NUMBERS], m: usize, r: Motion)
 }
 
 // From, to, span, place and number of sweeps of each of the `count` motions, which start at `start`.
-pub fn decode_motions(file: &[u8], start: usize, count: usize) -> [u16; MOTION_NUMBERS]
+pub fn decode_motions(file: &[u8], start: usize, count: usize, motions: &mut [u16])
     requires { ⌜ (readSite (now file) ≡ accepted (siteOf (now file))) × (start ≡ statePlace (length (siteOf (now file) .states))) ⌝ }
-    requires { ⌜ count ≡ length (siteOf (now file) .motions) ⌝ }
-    ensures { λ r. ⌜ MotionsDecoded (now (file .entry)) r ⌝ }
+    requires { ⌜ (count ≡ length (siteOf (now file) .motions)) × (count * 5 ≤ length (now motions)) ⌝ }
+    ensures { λ _. ⌜ MotionsDecoded (now (file .entry)) (now (motions .exit)) ⌝ }
+    ensures { λ _. ⌜ length (now (motions .exit)) ≡ length (now (motions .entry)) ⌝ }
 {
-    let index = site_read::motion_index(file, start, count);
-    let mut motions = [0u16; MOTION_NUMBERS];
+    let mut at = start;
     let mut m = 0;
     while m < count {
-        put_motion(&mut motions, m, site_read::motion_at(file, &index, m));
+        put_motion(motions, m, site_read::read_motion(file, at));
+        at = fields::next_field(file, at);
         m += 1;
     }
-    motions
 }

@@ -41,41 +41,42 @@ spanLimit = 255
 
 -- rows of cells, states and motions
 abbrev pub cellRows : ℕ
-cellRows = 256
+cellRows = 1000
 
 abbrev pub stateRows : ℕ
-stateRows = 256
+stateRows = 1280
 
 abbrev pub motionRows : ℕ
-motionRows = 2000
+motionRows = 4000
 
--- numbers of the states, two each, and of the motions, five each
-abbrev pub stateNumbers : ℕ
-stateNumbers = 512
-
-abbrev pub motionNumbers : ℕ
-motionNumbers = 10000
-
--- numbers of the lists of motions
-abbrev pub listed : ℕ
-listed = 2256
-
--- rows of tables, motions and states of a small site, and rows and motions of most others
-abbrev pub smallRows : ℕ
-smallRows = 64
+-- states, motions and rows of tables of a small site, of most others, and of a wide one
+abbrev pub smallStates : ℕ
+smallStates = 32
 
 abbrev pub smallMotions : ℕ
 smallMotions = 64
 
-abbrev pub smallStates : ℕ
-smallStates = 32
+abbrev pub smallRows : ℕ
+smallRows = 64
 
-abbrev pub middleRows : ℕ
-middleRows = 1024
+abbrev pub middleStates : ℕ
+middleStates = 256
 
 abbrev pub middleMotions : ℕ
 middleMotions = 1024
 
+abbrev pub middleRows : ℕ
+middleRows = 1024
+
+abbrev pub wideStates : ℕ
+wideStates = 512
+
+abbrev pub wideMotions : ℕ
+wideMotions = 2048
+
+abbrev pub wideRows : ℕ
+wideRows = 4096
+
 -- more words than any tables of runs have, so that no place in them is out of range
 abbrev pub tableLimit : ℕ
-tableLimit = 65536
+tableLimit = 131072

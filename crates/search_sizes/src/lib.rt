@@ -16,53 +16,36 @@ pub const ROW_WORDS: usize = BLOCK_WORDS * (BLOCKS + 1);
 // Ticks of all blocks.
 pub const TICKS: usize = BLOCK_TICKS * BLOCKS;
 
-// States and motions.
-pub const STATES: usize = site_layout::STATE_LIMIT;
-
-pub const MOTIONS: usize = site_layout::MOTION_LIMIT;
-
-// Numbers of a state and of a motion, and of all of them.
+// Numbers of a state and of a motion.
 pub const STATE_SIZE: usize = 2;
 
 pub const MOTION_SIZE: usize = 5;
 
-pub const STATE_NUMBERS: usize = STATES * STATE_SIZE;
-
-pub const MOTION_NUMBERS: usize = MOTIONS * MOTION_SIZE;
-
-// Numbers of the lists of motions: one a motion, and one a state.
-pub const LISTED: usize = MOTIONS + STATES;
-
 // Tables of runs, by their length.
-pub const RUN_TABLES: usize = 12;
+pub const RUN_TABLES: usize = 9;
 
-// Rows of the tables of runs, motions and states that a search has room for: for a small site, for most others, and for every site.
-// A search clears its tables, and a small site is not to pay for large ones.
-pub const SMALL_ROWS: usize = 64;
+// States, motions and rows of the tables of runs that a search has room for: on a small site, on most others, on a wide one, and on every
+// site. A search clears its tables, and a site is not to pay for much larger ones than its own.
+pub const SMALL_STATES: usize = 32;
 
 pub const SMALL_MOTIONS: usize = 64;
 
-pub const SMALL_STATES: usize = 32;
+pub const SMALL_ROWS: usize = 64;
 
-pub const MIDDLE_ROWS: usize = 1024;
+pub const MIDDLE_STATES: usize = 256;
 
 pub const MIDDLE_MOTIONS: usize = 1024;
 
-pub const LARGE_ROWS: usize = RUN_TABLES * site_layout::CELL_LIMIT;
+pub const MIDDLE_ROWS: usize = 1024;
 
-// Words of their tables. The tables of runs have one word more, which a shift by nothing reads.
-pub const SMALL_TABLE_WORDS: usize = SMALL_ROWS * WINDOW_WORDS + 1;
+pub const WIDE_STATES: usize = 512;
 
-pub const SMALL_ALLOWED_WORDS: usize = SMALL_MOTIONS * BLOCK_WORDS;
+pub const WIDE_MOTIONS: usize = 2048;
 
-pub const SMALL_REACHED_WORDS: usize = SMALL_STATES * ROW_WORDS;
+pub const WIDE_ROWS: usize = 4096;
 
-pub const MIDDLE_TABLE_WORDS: usize = MIDDLE_ROWS * WINDOW_WORDS + 1;
+pub const STATES: usize = site_layout::STATE_LIMIT;
 
-pub const MIDDLE_ALLOWED_WORDS: usize = MIDDLE_MOTIONS * BLOCK_WORDS;
+pub const MOTIONS: usize = site_layout::MOTION_LIMIT;
 
-pub const LARGE_TABLE_WORDS: usize = LARGE_ROWS * WINDOW_WORDS + 1;
-
-pub const ALLOWED_WORDS: usize = MOTIONS * BLOCK_WORDS;
-
-pub const REACHED_WORDS: usize = STATES * ROW_WORDS;
+pub const ROWS: usize = RUN_TABLES * site_layout::CELL_LIMIT;

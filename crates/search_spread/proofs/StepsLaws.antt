@@ -19,7 +19,7 @@ kept-then b l₀ l l′ p q =
 module _ {cells n k b : ℕ} {st mv sw tab : List ℕ} where
   pub stepped-start : (known al l : List ℕ) {C : (ℕ → ℕ → Bool) → Pairs → Type 0} {Q : (ℕ → ℕ → Bool) → Type 0} → ((g : ℕ → ℕ → Bool) → Q g)
       → Stepped cells n k b st mv sw tab known al l known al l C Q
-  stepped-start known al l q = record { kept = kept-start b l; sized = refl; right = λ g right ready. (ready, (λ R c inside. inside, q g)) }
+  stepped-start known al l q = record { kept = kept-start b l; sized = (refl, refl); right = λ g right ready. (ready, (λ R c inside. inside, q g)) }
 
   -- closed under more, and what follows
   pub stepped-map : {known₀ al₀ l₀ known al l : List ℕ} {C D : (ℕ → ℕ → Bool) → Pairs → Type 0} {P Q : (ℕ → ℕ → Bool) → Type 0}
@@ -39,7 +39,7 @@ module _ {cells n k b : ℕ} {st mv sw tab : List ℕ} where
   stepped-then f p q =
       record {
         kept = kept-then b _ _ _ (p .kept) (q .kept);
-        sized = q .sized ∙ p .sized;
+        sized = (q .sized .0 ∙ p .sized .0, q .sized .1 ∙ p .sized .1);
         right = λ g right ready₀.
             let (ready₁, (within₁, done₁)) = p .right g right ready₀ in
             let (ready, (within, done)) = q .right g right ready₁ in

@@ -11,7 +11,7 @@ use lib.ListN.{length, getD, set, length-set}
 use lib.Seq.{getD-set-same, getD-set-other}
 use borrow.Author.Tests.{eqb-true, eqb-false}
 use Rattle.meaning.proofs.BasicsLaws.{decide}
-use Rattle.search_sizes.specs.Sizes.{motionRows, blockTicks, blocks, windowTicks, rowTicks, stateRows}
+use Rattle.search_sizes.specs.Sizes.{blockTicks, blocks, windowTicks, rowTicks}
 use Rattle.search_ticks.specs.Rows.{has}
 use Rattle.search_ticks.proofs.BitLaws.{or-zero}
 use Rattle.search_site.specs.Arrays.{fromAt, toAt, spanAt, Motions}
@@ -58,11 +58,11 @@ module _ (n k : ℕ) (st mv sw : List ℕ) (g : ℕ → ℕ → Bool) (b : ℕ) 
           false≢true (sym (none (u - blockTicks * b) (omega arith)) ∙ ap (has l s) place ∙ ap (λ (z : ℕ). has l z u) (sym same) ∙ on)
 
   -- the waits and the motions of a state
-  pub tried-state : (noted l l₁ l₂ noted₂ : List ℕ) (s d : ℕ) → n ≤ stateRows → RowSet b s l l₁ d → Inside l₁ (has l₂)
+  pub tried-state : (noted l l₁ l₂ noted₂ : List ℕ) (s d : ℕ) → RowSet b s l l₁ d → Inside l₁ (has l₂)
       → WaitClosed st g b s (has l₁) → Noted l₁ (set noted s 0) l₂ noted₂ → (getD noted₂ s 0 ≡ 0 → MovesClosed k mv sw g b s (has l₂))
       → Tried n k st mv sw g b noted (has l) → Tried n k st mv sw g b noted₂ (has l₂)
-  tried-state noted l l₁ l₂ noted₂ s d few waited kept₂ waits notes moves c x h e =
-      let (was, same) = notes x (omega arith) e in
+  tried-state noted l l₁ l₂ noted₂ s d waited kept₂ waits notes moves c x h e =
+      let (was, same) = notes x e in
       decide (eqb x s)
       (λ r.
       let is : x ≡ s = eqb-true x s r in (
@@ -80,12 +80,12 @@ module _ (n k : ℕ) (st mv sw : List ℕ) (g : ℕ → ℕ → Bool) (b : ℕ) 
 -- ---- the notes of growth
 
 pub noted-start : (l noted : List ℕ) → Noted l noted l noted
-noted-start l noted s h e = (e, λ u lt. refl)
+noted-start l noted s e = (e, λ u lt. refl)
 
 noted-then : (l₀ noted₀ l noted l′ noted′ : List ℕ) → Noted l₀ noted₀ l noted → Noted l noted l′ noted′ → Noted l₀ noted₀ l′ noted′
-noted-then l₀ noted₀ l noted l′ noted′ p q x h e =
-    let (was, same) = q x h e in
-    let (first, row) = p x h was in
+noted-then l₀ noted₀ l noted l′ noted′ p q x e =
+    let (was, same) = q x e in
+    let (first, row) = p x was in
     (first, λ u lt. same u lt ∙ row u lt)
 
 -- the notes after d was new in row `to`
@@ -93,7 +93,7 @@ abbrev pub note : List ℕ → ℕ → ℕ → List ℕ
 note noted to d = set noted to (bitOr (getD noted to 0) d)
 
 noted-one : (b : ℕ) (l l′ noted : List ℕ) (to d : ℕ) → to < length noted → RowSet b to l l′ d → Noted l noted l′ (note noted to d)
-noted-one b l l′ noted to d room moved x h e =
+noted-one b l l′ noted to d room moved x e =
     decide (eqb x to)
     (λ r.
     let same : x ≡ to = eqb-true x to r in
@@ -112,14 +112,14 @@ Done mv sw b s g l noted m = getD noted s 0 ≡ 0 → MoveClosed mv sw g b m (ha
 -- the motions of the list of s before a are done
 abbrev pub Walked : ℕ → List ℕ → List ℕ → List ℕ → ℕ → ℕ → List ℕ → List ℕ → ℕ → (ℕ → ℕ → Bool) → Type 0
 Walked k mv sw ls b s l noted a g =
-    (m : ℕ) → Chain ls k (getD ls (motionRows + s) 0) m → fromAt mv m ≡ s → Along ls k (Done mv sw b s g l noted) a m
+    (m : ℕ) → Chain ls k (getD ls (k + s) 0) m → fromAt mv m ≡ s → Along ls k (Done mv sw b s g l noted) a m
 
 module _ (k : ℕ) (mv sw ls : List ℕ) (b s : ℕ) (g : ℕ → ℕ → Bool) where
-  pub walked-start : (l noted : List ℕ) (a : ℕ) → a ≡ getD ls (motionRows + s) 0 → Walked k mv sw ls b s l noted a g
-  walked-start l noted a e m c from = along-start ls k (Done mv sw b s g l noted) (getD ls (motionRows + s) 0) a m e c
+  pub walked-start : (l noted : List ℕ) (a : ℕ) → a ≡ getD ls (k + s) 0 → Walked k mv sw ls b s l noted a g
+  walked-start l noted a e m c from = along-start ls k (Done mv sw b s g l noted) (getD ls (k + s) 0) a m e c
 
   -- what is on no list is none of the motions of s
-  walked-all : (l noted : List ℕ) → ((m : ℕ) → Chain ls k (getD ls (motionRows + s) 0) m → fromAt mv m ≡ s → Done mv sw b s g l noted m)
+  walked-all : (l noted : List ℕ) → ((m : ℕ) → Chain ls k (getD ls (k + s) 0) m → fromAt mv m ≡ s → Done mv sw b s g l noted m)
       → MovesTried k mv sw ls b s l noted g
   walked-all l noted each all e m lt from = each m (listed-on 0 k mv ls s all m lt (end-from mv m ∙ from)) from e
 
@@ -127,11 +127,11 @@ module _ (k : ℕ) (mv sw ls : List ℕ) (b s : ℕ) (g : ℕ → ℕ → Bool) 
   pub walked-end : (l noted : List ℕ) (a : ℕ) → k ≤ a → Walked k mv sw ls b s l noted a g → MovesTried k mv sw ls b s l noted g
   walked-end l noted a past w = walked-all l noted (λ m c from. along-end ls k (Done mv sw b s g l noted) a m past (w m c from))
 
-  module _ (l l′ noted : List ℕ) (a d to : ℕ) (small : b < blocks) (known : s < stateRows) (room : to < length noted)
+  module _ (l l′ noted : List ℕ) (a d to : ℕ) (small : b < blocks) (room : to < length noted)
       (moved : RowSet b to l l′ d) (closed : MoveClosed mv sw g b a (has l′)) where
     still : (m : ℕ) → fromAt mv m ≡ s → Done mv sw b s g l noted m → Done mv sw b s g l′ (note noted to d) m
     still m from c e =
-        let (was, same) = noted-one b l l′ noted to d room moved s known e in
+        let (was, same) = noted-one b l l′ noted to d room moved s e in
         move-kept-from 0 k mv mv sw g b small s m l l′ from (moved .kept .inside) same (c was)
 
     pub walked-more : (after : ℕ) → after ≡ getD ls a 0 → Walked k mv sw ls b s l noted a g → Walked k mv sw ls b s l′ (note noted to d) after g
@@ -149,15 +149,15 @@ module _ (k : ℕ) (mv sw ls : List ℕ) (b s : ℕ) (g : ℕ → ℕ → Bool) 
 -- the motions tried so far, from the notes noted₀ to noted
 pub record Walk (cells n k b : ℕ) (st mv sw tab known₀ al₀ l₀ noted₀ known al l noted : List ℕ) (Q : (ℕ → ℕ → Bool) → Type 0) : Type 0 where
   pub steps : Stepped cells n k b st mv sw tab known₀ al₀ l₀ known al l (λ g. Below (MoveClosed mv sw g b) k) Q
-  pub long : length noted ≡ stateRows
+  pub long : length noted ≡ length noted₀
   pub noted-growth : Noted l₀ noted₀ l noted
   pub progress : Progress l₀ l (Unnoted noted₀ noted)
 
 module _ {cells n k b : ℕ} {st mv sw tab : List ℕ} where
-  pub walk-start : (known al l noted : List ℕ) {Q : (ℕ → ℕ → Bool) → Type 0} → length noted ≡ stateRows → ((g : ℕ → ℕ → Bool) → Q g)
+  pub walk-start : (known al l noted : List ℕ) {Q : (ℕ → ℕ → Bool) → Type 0} → ((g : ℕ → ℕ → Bool) → Q g)
       → Walk cells n k b st mv sw tab known al l noted known al l noted Q
-  walk-start known al l noted long q =
-      record { steps = stepped-start known al l q; long = long; noted-growth = noted-start l noted; progress = progress-none l (λ x. refl) }
+  walk-start known al l noted q =
+      record { steps = stepped-start known al l q; long = refl; noted-growth = noted-start l noted; progress = progress-none l (λ x. refl) }
 
   pub walk-end : {known₀ al₀ l₀ noted₀ known al l noted : List ℕ} {P Q : (ℕ → ℕ → Bool) → Type 0} → ((g : ℕ → ℕ → Bool) → P g → Q g)
       → Walk cells n k b st mv sw tab known₀ al₀ l₀ noted₀ known al l noted P → Walk cells n k b st mv sw tab known₀ al₀ l₀ noted₀ known al l noted Q
@@ -165,7 +165,7 @@ module _ {cells n k b : ℕ} {st mv sw tab : List ℕ} where
 
   -- one more motion, a
   pub walk-more : {known₀ al₀ l₀ noted₀ known al l noted : List ℕ} {P Q : (ℕ → ℕ → Bool) → Type 0} (known′ al′ l′ : List ℕ) (a to d : ℕ)
-      → a < k → to ≡ toAt mv a → to < stateRows → RowSet b (toAt mv a) l l′ d → length al′ ≡ length al
+      → a < k → to ≡ toAt mv a → to < length noted₀ → RowSet b (toAt mv a) l l′ d → (length al′ ≡ length al) × (length known′ ≡ length known)
       → ((g : ℕ → ℕ → Bool) → TablesRight g cells n k b st mv sw tab → RowsReady g k b mv sw known al
       → RowsReady g k b mv sw known′ al′ × (Within (MoveClosed mv sw g b a) l l′ × MoveClosed mv sw g b a (has l′)))
       → ((g : ℕ → ℕ → Bool) → RowSet b to l l′ d → to < length noted → MoveClosed mv sw g b a (has l′) → P g → Q g)
@@ -197,16 +197,16 @@ module _ {cells n k b : ℕ} {st mv sw tab : List ℕ} where
   state-empty known al l noted ls s small ranges none = stepped-start known al l (λ g all. tried-empty n k st mv sw g b small noted l s ranges none)
 
   -- the waits, and then the motions
-  pub state-steps : {known al l known₂ al₂ l₂ : List ℕ} (l₁ noted noted₂ ls : List ℕ) (s d : ℕ) → b < blocks → n ≤ stateRows → s < n → RowSet b s l l₁ d
+  pub state-steps : {known al l known₂ al₂ l₂ : List ℕ} (l₁ noted noted₂ ls : List ℕ) (s d : ℕ) → b < blocks → s < n → RowSet b s l l₁ d
       → ((g : ℕ → ℕ → Bool) (k : ℕ) (mv sw : List ℕ) → TablesRight g cells n k b st mv sw tab → Within (WaitClosed st g b s) l l₁ × WaitClosed st g b s (has l₁))
       → Stepped cells n k b st mv sw tab known al l₁ known₂ al₂ l₂ (λ g. Below (MoveClosed mv sw g b) k) (MovesTried k mv sw ls b s l₂ noted₂)
       → Noted l₁ (set noted s 0) l₂ noted₂
       → Stepped cells n k b st mv sw tab known al l known₂ al₂ l₂ (λ g. Closed n k st mv sw g b) (StillTried n k st mv sw ls b noted l noted₂ l₂)
-  state-steps {known = known} {al = al} {l = l} {l₂ = l₂} l₁ noted noted₂ ls s d small few lt waited waits moves notes =
+  state-steps {known = known} {al = al} {l = l} {l₂ = l₂} l₁ noted noted₂ ls s d small lt waited waits moves notes =
       stepped-then
-      (λ g wait move all. tried-state n k st mv sw g b small noted l l₁ l₂ noted₂ s d few waited (moves .kept .inside) wait notes (move all))
+      (λ g wait move all. tried-state n k st mv sw g b small noted l l₁ l₂ noted₂ s d waited (moves .kept .inside) wait notes (move all))
       (stepped-map (λ g R c. c .0 s lt) (λ g c. c) waits-done)
       (stepped-map (λ g R c. c .1) (λ g c. c) moves)
     where
       waits-done : Stepped cells n k b st mv sw tab known al l known al l₁ (λ g. WaitClosed st g b s) (λ g. WaitClosed st g b s (has l₁))
-      waits-done = record { kept = waited .kept; sized = refl; right = λ g right ready. (ready, waits g k mv sw right) }
+      waits-done = record { kept = waited .kept; sized = (refl, refl); right = λ g right ready. (ready, waits g k mv sw right) }

@@ -5,7 +5,7 @@ use mathlib.Core.Path.{_≡_}
 use mathlib.Core.Bool.{Bool}
 use mathlib.Core.List.{List}
 use lib.ListN.{length, getD}
-use Rattle.search_sizes.specs.Sizes.{rowTicks, stateRows}
+use Rattle.search_sizes.specs.Sizes.{rowTicks}
 use Rattle.search_ticks.specs.Rows.{has, total}
 use Rattle.search_site.specs.Arrays.{fromAt}
 use Rattle.search_step.specs.Sets.{Pairs, WaitClosed, MoveClosed, Within, Kept, TablesRight, RowsReady}
@@ -15,7 +15,7 @@ use Rattle.search_lists.specs.Lists.{Listed}
 -- steps stay inside every set that is closed as C says and that they began in, and Q holds.
 pub record Stepped (cells n k b : ℕ) (st mv sw tab known₀ al₀ l₀ known al l : List ℕ) (C : (ℕ → ℕ → Bool) → Pairs → Type 0) (Q : (ℕ → ℕ → Bool) → Type 0) : Type 0 where
   pub kept : Kept b l₀ l
-  pub sized : length al ≡ length al₀
+  pub sized : (length al ≡ length al₀) × (length known ≡ length known₀)
   pub right : (g : ℕ → ℕ → Bool) → TablesRight g cells n k b st mv sw tab → RowsReady g k b mv sw known₀ al₀ → RowsReady g k b mv sw known al × (Within (C g) l₀ l × Q g)
 
 -- the motions from s are closed
@@ -36,7 +36,7 @@ StillTried n k st mv sw ls b noted₀ l₀ noted l g = Listed 0 k mv ls → Trie
 
 -- where no growth is noted in g, none was noted in g₀, and the row is as it was
 abbrev pub Noted : List ℕ → List ℕ → List ℕ → List ℕ → Type 0
-Noted l₀ g₀ l g = (s : ℕ) → s < stateRows → getD g s 0 ≡ 0 → (getD g₀ s 0 ≡ 0) × ((u : ℕ) → u < rowTicks → has l s u ≡ has l₀ s u)
+Noted l₀ g₀ l g = (s : ℕ) → getD g s 0 ≡ 0 → (getD g₀ s 0 ≡ 0) × ((u : ℕ) → u < rowTicks → has l s u ≡ has l₀ s u)
 
 -- some steps from l₀ to l: the sum of the words has grown, or nothing has changed and Q holds
 pub data Progress (l₀ l : List ℕ) (Q : Type 0) : Type 0 where

@@ -1,11 +1,8 @@
 // The waits and the motions of one state in a block of ticks: what they set, and which states' sets grow.
-use search_sizes::LISTED;
-use search_sizes::MOTIONS;
-use search_sizes::STATES;
 ghost use mathlib.Core.Path.{_≡_};
-ghost use Prim.Native.Nat.{_*_, _≤_, _<_};
+ghost use Prim.Native.Nat.{_+_, _*_, _≤_, _<_};
 ghost use lib.ListN.{length};
-ghost use Rattle.search_sizes.specs.Sizes.{blockWords, blocks, rowWords, stateRows};
+ghost use Rattle.search_sizes.specs.Sizes.{blockWords, blocks, rowWords};
 ghost use Rattle.search_site.specs.Arrays.{States, Motions, CellsBelow, Leads};
 ghost use Rattle.search_site.specs.Decoded.{Sweeps};
 ghost use Rattle.search_step.specs.Sets.{MoveClosed, Below, Closed, Room};
@@ -18,10 +15,10 @@ fn move_from(
     sweeps: &[u8],
     tab: &[u64],
     allowed: &mut [u64],
-    known: &mut [u8; MOTIONS],
+    known: &mut [u8],
     reached: &mut [u64],
-    lists: &[u16; LISTED],
-    grown: &mut [u64; STATES],
+    lists: &[u16],
+    grown: &mut [u64],
     cells: usize,
     n: usize,
     k: usize,
@@ -30,15 +27,16 @@ fn move_from(
 )
     requires { ⌜ States n (now states) × (CellsBelow cells n (now states) × (Motions k (now motions) × (Leads n k (now motions) × (s < n)))) ⌝ }
     requires { ⌜ Sweeps cells k (now motions) (now sweeps) × (Room cells k (now motions) (now tab) × (block < blocks)) ⌝ }
-    requires { ⌜ (k * blockWords ≤ length (now allowed)) × ((n * rowWords ≤ length (now reached)) × (length (now grown) ≡ stateRows)) ⌝ }
+    requires { ⌜ (k * blockWords ≤ length (now allowed)) × ((k ≤ length (now known)) × (n * rowWords ≤ length (now reached))) ⌝ }
+    requires { ⌜ (k + n ≤ length (now lists)) × (n ≤ length (now grown)) ⌝ }
     ensures { λ _. ⌜ Stepped cells n k block (now (states .entry)) (now (motions .entry)) (now (sweeps .entry)) (now (tab .entry))
         (now (known .entry)) (now (allowed .entry)) (now (reached .entry)) (now (known .exit)) (now (allowed .exit)) (now (reached .exit))
         (λ g. Below (MoveClosed (now (motions .entry)) (now (sweeps .entry)) g block) k)
         (MovesTried k (now (motions .entry)) (now (sweeps .entry)) (now (lists .entry)) block s (now (reached .exit)) (now (grown .exit))) ⌝ }
-    ensures { λ _. ⌜ (length (now (grown .exit)) ≡ stateRows) × Noted (now (reached .entry)) (now (grown .entry)) (now (reached .exit)) (now (grown .exit)) ⌝ }
+    ensures { λ _. ⌜ (length (now (grown .exit)) ≡ length (now (grown .entry))) × Noted (now (reached .entry)) (now (grown .entry)) (now (reached .exit)) (now (grown .exit)) ⌝ }
     ensures { λ _. ⌜ Progress (now (reached .entry)) (now (reached .exit)) (Unnoted (now (grown .entry)) (now (grown .exit))) ⌝ }
 {
-    let mut m = search_lists::listed_at(lists, MOTIONS + s);
+    let mut m = search_lists::listed_at(lists, k + s);
     while m < k {
         let new = search_step::move_one(
             states,
@@ -71,10 +69,10 @@ pub fn spread_one(
     sweeps: &[u8],
     tab: &[u64],
     allowed: &mut [u64],
-    known: &mut [u8; MOTIONS],
+    known: &mut [u8],
     reached: &mut [u64],
-    lists: &[u16; LISTED],
-    grown: &mut [u64; STATES],
+    lists: &[u16],
+    grown: &mut [u64],
     cells: usize,
     n: usize,
     k: usize,
@@ -83,13 +81,14 @@ pub fn spread_one(
 )
     requires { ⌜ States n (now states) × (CellsBelow cells n (now states) × (Motions k (now motions) × (Leads n k (now motions) × (s < n)))) ⌝ }
     requires { ⌜ Sweeps cells k (now motions) (now sweeps) × (Room cells k (now motions) (now tab) × (block < blocks)) ⌝ }
-    requires { ⌜ (k * blockWords ≤ length (now allowed)) × ((n * rowWords ≤ length (now reached)) × (length (now grown) ≡ stateRows)) ⌝ }
+    requires { ⌜ (k * blockWords ≤ length (now allowed)) × ((k ≤ length (now known)) × (n * rowWords ≤ length (now reached))) ⌝ }
+    requires { ⌜ (k + n ≤ length (now lists)) × (n ≤ length (now grown)) ⌝ }
     ensures { λ _. ⌜ Stepped cells n k block (now (states .entry)) (now (motions .entry)) (now (sweeps .entry)) (now (tab .entry))
         (now (known .entry)) (now (allowed .entry)) (now (reached .entry)) (now (known .exit)) (now (allowed .exit)) (now (reached .exit))
         (λ g. Closed n k (now (states .entry)) (now (motions .entry)) (now (sweeps .entry)) g block)
         (StillTried n k (now (states .entry)) (now (motions .entry)) (now (sweeps .entry)) (now (lists .entry)) block
         (now (grown .entry)) (now (reached .entry)) (now (grown .exit)) (now (reached .exit))) ⌝ }
-    ensures { λ _. ⌜ length (now (grown .exit)) ≡ stateRows ⌝ }
+    ensures { λ _. ⌜ length (now (grown .exit)) ≡ length (now (grown .entry)) ⌝ }
     ensures { λ _. ⌜ Progress (now (reached .entry)) (now (reached .exit)) (UnnotedBut (now (grown .entry)) (now (grown .exit)) s) ⌝ }
 {
     if grown[s] == 0 {

@@ -174,14 +174,14 @@ ready-more g k b m mv sw known al al′ others here ready x lt marked i h =
 
 -- the row of motion m is right after al and known have changed to al′ and known′
 pub record Prepared (cells n k b m : ℕ) (st mv sw tab known al known′ al′ : List ℕ) : Type 0 where
-  pub sized : length al′ ≡ length al
+  pub sized : (length al′ ≡ length al) × (length known′ ≡ length known)
   pub rows : (g : ℕ → ℕ → Bool) → TablesRight g cells n k b st mv sw tab → RowsReady g k b mv sw known al → RowsReady g k b mv sw known′ al′ × RowReady g b mv sw al′ m
 
 -- it was known before
 pub prepared-known : (cells n k b m : ℕ) (st mv sw tab known al known′ al′ : List ℕ) → m < k → (getD known m 0 ≡ 0 → ⊥) → al′ ≡ al → known′ ≡ known
     → Prepared cells n k b m st mv sw tab known al known′ al′
 prepared-known cells n k b m st mv sw tab known al known′ al′ lt marked same-al same-known =
-    rw (same-al, same-known) (record { sized = refl; rows = λ g right ready. (ready, ready m lt marked) })
+    rw (same-al, same-known) (record { sized = (refl, refl); rows = λ g right ready. (ready, ready m lt marked) })
 
 -- ---- the waits of a state
 

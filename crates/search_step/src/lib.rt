@@ -1,5 +1,4 @@
 // What one wait and one motion set of the pairs of state and tick, in a block of ticks.
-use search_sizes::MOTIONS;
 ghost use mathlib.Core.Path.{_≡_};
 ghost use mathlib.Core.Bool.{Bool};
 ghost use Prim.Native.Nat.{ℕ, _*_, _≤_, _<_};
@@ -41,14 +40,14 @@ fn prepare(
     sweeps: &[u8],
     tab: &[u64],
     allowed: &mut [u64],
-    known: &mut [u8; MOTIONS],
+    known: &mut [u8],
     cells: usize,
     k: usize,
     m: usize,
 )
     requires { ⌜ Motions k (now motions) × (Sweeps cells k (now motions) (now sweeps) × (m < k)) ⌝ }
-    requires { ⌜ Room cells k (now motions) (now tab) × (k * blockWords ≤ length (now allowed)) ⌝ }
-    ensures { λ _. ⌜ length (now (allowed .exit)) ≡ length (now (allowed .entry)) ⌝ }
+    requires { ⌜ Room cells k (now motions) (now tab) × ((k * blockWords ≤ length (now allowed)) × (k ≤ length (now known))) ⌝ }
+    ensures { λ _. ⌜ (length (now (allowed .exit)) ≡ length (now (allowed .entry))) × (length (now (known .exit)) ≡ length (now (known .entry))) ⌝ }
     ensures { λ _. ⌜ ((g : ℕ → ℕ → Bool) (n block : ℕ) (st : List ℕ) → TablesRight g cells n k block st (now (motions .entry)) (now (sweeps .entry)) (now (tab .entry))
         → RowsReady g k block (now (motions .entry)) (now (sweeps .entry)) (now (known .entry)) (now (allowed .entry))
         → RowsReady g k block (now (motions .entry)) (now (sweeps .entry)) (now (known .exit)) (now (allowed .exit))
@@ -68,7 +67,7 @@ pub fn move_one(
     sweeps: &[u8],
     tab: &[u64],
     allowed: &mut [u64],
-    known: &mut [u8; MOTIONS],
+    known: &mut [u8],
     reached: &mut [u64],
     cells: usize,
     n: usize,
@@ -78,9 +77,9 @@ pub fn move_one(
 ) -> u64
     requires { ⌜ States n (now states) × (CellsBelow cells n (now states) × (Motions k (now motions) × (Leads n k (now motions) × (m < k)))) ⌝ }
     requires { ⌜ Sweeps cells k (now motions) (now sweeps) × (Room cells k (now motions) (now tab) × (block < blocks)) ⌝ }
-    requires { ⌜ (k * blockWords ≤ length (now allowed)) × (n * rowWords ≤ length (now reached)) ⌝ }
+    requires { ⌜ (k * blockWords ≤ length (now allowed)) × ((k ≤ length (now known)) × (n * rowWords ≤ length (now reached))) ⌝ }
     ensures { λ d. ⌜ RowSet block (toAt (now (motions .entry)) m) (now (reached .entry)) (now (reached .exit)) d ⌝ }
-    ensures { λ _. ⌜ length (now (allowed .exit)) ≡ length (now (allowed .entry)) ⌝ }
+    ensures { λ _. ⌜ (length (now (allowed .exit)) ≡ length (now (allowed .entry))) × (length (now (known .exit)) ≡ length (now (known .entry))) ⌝ }
     ensures { λ _. ⌜ ((g : ℕ → ℕ → Bool) → TablesRight g cells n k block (now (states .entry)) (now (motions .entry)) (now (sweeps .entry)) (now (tab .entry))
         → RowsReady g k block (now (motions .entry)) (now (sweeps .entry)) (now (known .entry)) (now (allowed .entry))
         → RowsReady g k block (now (motions .entry)) (now (sweeps .entry)) (now (known .exit)) (now (allowed .exit))

@@ -3,14 +3,14 @@ use light_write::CODE_LIMIT;
 use site::Sizes;
 ghost use mathlib.Core.Path.{_≡_};
 ghost use mathlib.Core.List.{_∷_};
-ghost use Prim.Native.Nat.{_*_, _≤_, _<_};
+ghost use Prim.Native.Nat.{_+_, _*_, _≤_, _<_};
 ghost use lib.ListN.{length};
 ghost use Rattle.meaning.specs.Limits.{horizonLimit};
 ghost use Rattle.meaning.specs.Plan.{move};
 ghost use Rattle.meaning.specs.Reach.{waitOne};
 ghost use Rattle.site.specs.Ready.{Ready};
 ghost use Rattle.search_sizes.specs.Sizes.{rowWords, motionRows};
-ghost use Rattle.search_site.specs.Arrays.{States, Motions};
+ghost use Rattle.search_site.specs.Arrays.{States, Motions, Leads};
 ghost use Rattle.search_site.specs.Decoded.{StatesDecoded, MotionsDecoded};
 ghost use Rattle.light_write.specs.Codes.{codeLimit, stepOfCode, stepsIn};
 ghost use Rattle.search_trace.specs.Turns.{waitInFront, Search, Found};
@@ -53,6 +53,7 @@ pub fn trace_back(
     sizes: Sizes,
     states: &[u16],
     motions: &[u16],
+    lists: &mut [u16],
     board: &[u8],
     reached: &[u64],
     tick: usize,
@@ -61,13 +62,13 @@ pub fn trace_back(
     path: &mut [u16; CODE_LIMIT],
 ) -> usize
     requires { ⌜ Ready (now file) (length (now board)) sizes × (States (sizes .states) (now states) × StatesDecoded (now file) (now states)) ⌝ }
-    requires { ⌜ Motions (sizes .motions) (now motions) × MotionsDecoded (now file) (now motions) ⌝ }
-    requires { ⌜ (goal < sizes .states) × (sizes .states * rowWords ≤ length (now reached)) ⌝ }
+    requires { ⌜ Motions (sizes .motions) (now motions) × (MotionsDecoded (now file) (now motions) × Leads (sizes .states) (sizes .motions) (now motions)) ⌝ }
+    requires { ⌜ (goal < sizes .states) × ((sizes .states * rowWords ≤ length (now reached)) × (sizes .motions + sizes .states ≤ length (now lists))) ⌝ }
     requires { ⌜ ((x : Search) × Found x (now file) (now board) (now reached) tick goal arrival) ⌝ }
     ensures { λ r. ⌜ ((x : Search) → Found x (now (file .entry)) (now (board .entry)) (now (reached .entry)) tick goal arrival
         → stepsIn (now (path .exit)) r ≡ x .route .steps) ⌝ }
 {
-    let lists = search_lists::lists_of(motions, sizes.motions, 1);
+    search_lists::fill_lists(motions, sizes.motions, sizes.states, 1, lists);
     let mut s = goal;
     let mut t = arrival;
     let mut count = 0;
@@ -77,7 +78,7 @@ pub fn trace_back(
             sizes,
             states,
             motions,
-            &lists,
+            lists,
             board,
             reached,
             tick,

@@ -8,7 +8,7 @@ use native.Mathlib.Omega.{arith}
 use lib.ListN.{length, getD, take, drop}
 use lib.Dec.{leb, eqb}
 use borrow.Author.Tests.{eqb-true, eqb-false, leb-true, leb-false, eq-eqb, ne-eqb}
-use Rattle.meaning.specs.Limits.{stateLimit, headSize}
+use Rattle.meaning.specs.Limits.{stateLimit, headSize, stateSize}
 use Rattle.meaning.specs.Basics.{u16At}
 use Rattle.meaning.specs.Fields.{Field, noField, Fields, fields, complete, listed}
 use Rattle.meaning.specs.Site.{noState, headOf, laterOf, stateCount, headGood, isState, isMotion, motionsLaid, layoutGood, stateOf, motionOf, siteOf}
@@ -64,7 +64,7 @@ module _ (file : List ℕ) (h : Header) (w : Whole file 0 h) where
       let n = w .len in
       let t : fieldAt file 0 .tag ≡ 1 = field-tag file 0 ∙ sym (w .tag) ∙ p in
       let l : length (fieldAt file 0 .value) ≡ headSize = whole-length file 0 h w ∙ q in
-      simp (head-is, t, l, w .start, value-u16 file 0 0 (omega arith), value-byte file 0 2 (omega arith), value-u16 file 0 3 (omega arith), value-byte file 0 5 (omega arith))
+      simp (head-is, t, l, w .start, value-u16 file 0 0 (omega arith), value-u16 file 0 2 (omega arith), value-u16 file 0 4 (omega arith), value-byte file 0 6 (omega arith))
 
 -- a head that is good
 pub record HeadHere (file : List ℕ) : Type 0 where
@@ -73,9 +73,9 @@ pub record HeadHere (file : List ℕ) : Type 0 where
   pub whole : complete (fieldsAt file headField) ≡ true
   pub later : laterOf file ≡ listed (fieldsAt file headField)
   pub horizon : siteOf file .horizon ≡ u16At file 3
-  pub cells : siteOf file .cells ≡ getD file 5 0
-  pub count : stateCount file ≡ u16At file 6
-  pub margin : siteOf file .margin ≡ getD file 8 0
+  pub cells : siteOf file .cells ≡ u16At file 5
+  pub count : stateCount file ≡ u16At file 7
+  pub margin : siteOf file .margin ≡ getD file 9 0
 
 pub head-here : (file : List ℕ) → complete (fields file) ≡ true → headGood (headOf file) ≡ true → HeadHere file
 unfolding listed laterOf stateCount siteOf
@@ -102,9 +102,9 @@ head-here file w g =
           whole = x .whole;
           later = ap (drop 1) z;
           horizon = rw h (value-u16 file 0 0 (omega arith));
-          cells = rw h (value-byte file 0 2 (omega arith));
-          count = rw h (value-u16 file 0 3 (omega arith));
-          margin = rw h (value-byte file 0 5 (omega arith));
+          cells = rw h (value-u16 file 0 2 (omega arith));
+          count = rw h (value-u16 file 0 4 (omega arith));
+          margin = rw h (value-byte file 0 6 (omega arith));
         }
 
 -- its values, where the reader says that they start
@@ -112,9 +112,9 @@ pub record HeadRead (file : List ℕ) (h : Header) : Type 0 where
   pub inside : h .start + headSize ≤ length file
   pub next : h .next ≡ headField
   pub horizon : u16At file (h .start) ≡ siteOf file .horizon
-  pub cells : getD file (h .start + 2) 0 ≡ siteOf file .cells
-  pub count : u16At file (h .start + 3) ≡ stateCount file
-  pub margin : getD file (h .start + 5) 0 ≡ siteOf file .margin
+  pub cells : u16At file (h .start + 2) ≡ siteOf file .cells
+  pub count : u16At file (h .start + 4) ≡ stateCount file
+  pub margin : getD file (h .start + 6) 0 ≡ siteOf file .margin
 
 pub head-read : (file : List ℕ) → HeadHere file → (h : Header) → Whole file 0 h → HeadRead file h
 head-read file x h w =
@@ -123,9 +123,9 @@ head-read file x h w =
       inside = omega (arith, x .long);
       next = omega (arith, x .size, w .len, w .next);
       horizon = ap (u16At file) s ∙ sym (x .horizon);
-      cells = ap (λ (k : ℕ). getD file (k + 2) 0) s ∙ sym (x .cells);
-      count = ap (λ (k : ℕ). u16At file (k + 3)) s ∙ sym (x .count);
-      margin = ap (λ (k : ℕ). getD file (k + 5) 0) s ∙ sym (x .margin);
+      cells = ap (λ (k : ℕ). u16At file (k + 2)) s ∙ sym (x .cells);
+      count = ap (λ (k : ℕ). u16At file (k + 4)) s ∙ sym (x .count);
+      margin = ap (λ (k : ℕ). getD file (k + 6) 0) s ∙ sym (x .margin);
     }
 
 -- ---- a field's test, by what the reader says of it
@@ -141,7 +141,7 @@ module _ (file : List ℕ) (at : ℕ) (h : Header) (w : Whole file at h) where
   unfolding isState
   state-tag d = first-here isState ∙ simp (tagged, ne-eqb (h .tag) 2 d)
 
-  pub state-is : h .tag ≡ 2 → firstIs isState (listed (fieldsAt file at)) ≡ eqb (h .len) 2
+  pub state-is : h .tag ≡ 2 → firstIs isState (listed (fieldsAt file at)) ≡ eqb (h .len) stateSize
   unfolding isState
   state-is e = first-here isState ∙ simp (tagged, eq-eqb (h .tag) 2 e, whole-length file at h w)
 
@@ -200,8 +200,8 @@ pub record StateHere (file : List ℕ) (at n : ℕ) : Type 0 where
   pub whole : complete (fieldsAt file (at + stateField)) ≡ true
   pub list : listed (fieldsAt file at) ≡ fieldAt file at ∷ listed (fieldsAt file (at + stateField))
   pub layout : layoutGood n (listed (fieldsAt file at)) ≡ layoutGood (n - 1) (listed (fieldsAt file (at + stateField)))
-  pub cell : stateOf (fieldAt file at) .cell ≡ getD file (at + 3) 0
-  pub speed : stateOf (fieldAt file at) .speed ≡ getD file (at + 4) 0
+  pub cell : stateOf (fieldAt file at) .cell ≡ u16At file (at + 3)
+  pub speed : stateOf (fieldAt file at) .speed ≡ getD file (at + 5) 0
 
 -- where n states are to come and the layout is good, the next is there
 state-here : (file : List ℕ) (at n : ℕ) → 0 < n → complete (fieldsAt file at) ≡ true → layoutGood n (listed (fieldsAt file at)) ≡ true → StateHere file at n
@@ -214,28 +214,28 @@ state-here file at n l w e =
     let z = sym (value-length file at _ refl r) ∙ state-parts (fieldAt file at) i .1 in
     let x = next-is file at _ (at + stateField) w p refl (omega arith) in
     let a : at + 3 + 0 ≡ at + 3 = omega arith in
-    let b : at + 3 + 1 ≡ at + 4 = omega arith in
+    let b : at + 3 + 2 ≡ at + 5 = omega arith in
     record {
       inside = x .inside;
       whole = x .whole;
       list = x .list;
       layout = layout-next file at (at + stateField) n l f x;
-      cell = value-byte file at 0 (omega arith) ∙ ap (λ (k : ℕ). getD file k 0) a;
-      speed = value-byte file at 1 (omega arith) ∙ ap (λ (k : ℕ). getD file k 0) b;
+      cell = value-u16 file at 0 (omega arith) ∙ ap (u16At file) a;
+      speed = value-byte file at 2 (omega arith) ∙ ap (λ (k : ℕ). getD file k 0) b;
     }
 
 -- the state i of n from the place at on
 pub record StateAt (file : List ℕ) (at n i : ℕ) : Type 0 where
   pub inside : at + stateField * i + stateField ≤ length file
-  pub cell : getD (map stateOf (take n (listed (fieldsAt file at)))) i noState .cell ≡ getD file (at + stateField * i + 3) 0
-  pub speed : getD (map stateOf (take n (listed (fieldsAt file at)))) i noState .speed ≡ getD file (at + stateField * i + 4) 0
+  pub cell : getD (map stateOf (take n (listed (fieldsAt file at)))) i noState .cell ≡ u16At file (at + stateField * i + 3)
+  pub speed : getD (map stateOf (take n (listed (fieldsAt file at)))) i noState .speed ≡ getD file (at + stateField * i + 5) 0
 
 state-at : (file : List ℕ) (i at n : ℕ) → i < n → complete (fieldsAt file at) ≡ true → layoutGood n (listed (fieldsAt file at)) ≡ true → StateAt file at n i
 state-at file i at zero p w e = absurd (omega arith)
 state-at file zero at (suc n) p w e =
     let x = state-here file at (suc n) (omega arith) w e in
     let a : at + stateField * 0 + 3 ≡ at + 3 = omega arith in
-    let b : at + stateField * 0 + 4 ≡ at + 4 = omega arith in
+    let b : at + stateField * 0 + 5 ≡ at + 5 = omega arith in
     record {
       inside = let y = x .inside in omega arith;
       cell = rw (x .list, a) (x .cell);
@@ -247,7 +247,7 @@ state-at file (suc i) at (suc n) p w e =
     let l : layoutGood n (listed (fieldsAt file (at + stateField))) ≡ true = rw (← m) (sym (x .layout) ∙ e) in
     let y = state-at file i (at + stateField) n (omega arith) (x .whole) l in
     let a : at + stateField * suc i + 3 ≡ at + stateField + stateField * i + 3 = omega arith in
-    let b : at + stateField * suc i + 4 ≡ at + stateField + stateField * i + 4 = omega arith in
+    let b : at + stateField * suc i + 5 ≡ at + stateField + stateField * i + 5 = omega arith in
     record {
       inside = let z = y .inside in omega arith;
       cell = rw (x .list, a) (y .cell);
@@ -318,5 +318,5 @@ module _ (file : List ℕ) (laid : Laid file) where
   pub laid-value : (i r : ℕ) → i < length (siteOf file .states) → r ≡ statePlace i → StateValue file i (r + 3)
   laid-value i r p e =
       let x = laid-state i p in
-      let b : statePlace i + 4 ≡ statePlace i + 3 + 1 = omega arith in
+      let b : statePlace i + 5 ≡ statePlace i + 3 + 2 = omega arith in
       rw e (record { inside = omega (arith, x .inside); cell = rw laid-states (x .cell); speed = rw laid-states (x .speed ∙ ap (λ (k : ℕ). getD file k 0) b) })

@@ -20,8 +20,8 @@ firstIs p (f ∷ fs) = p f
 -- the head's values in range, where they start at the place at
 unfoldable pub headValues : List ℕ → ℕ → Bool
 headValues file at =
-    within 1 horizonLimit (u16At file at) && within 1 cellLimit (getD file (at + 2) 0) && within 1 stateLimit (u16At file (at + 3))
-    && leb (getD file (at + 5) 0) marginLimit
+    within 1 horizonLimit (u16At file at) && within 1 cellLimit (u16At file (at + 2)) && within 1 stateLimit (u16At file (at + 4))
+    && leb (getD file (at + 6) 0) marginLimit
 
 -- a motion's value may have n bytes
 unfoldable pub motionLength : ℕ → Bool
@@ -55,5 +55,5 @@ pub record HeadIs (file : List ℕ) (head : Head) : Type 0 where
 -- the value of the state i starts at the place r: its cell, then its speed
 pub record StateValue (file : List ℕ) (i r : ℕ) : Type 0 where
   pub inside : r + stateSize ≤ length file
-  pub cell : stateAt (siteOf file) i .cell ≡ getD file r 0
-  pub speed : stateAt (siteOf file) i .speed ≡ getD file (r + 1) 0
+  pub cell : stateAt (siteOf file) i .cell ≡ u16At file r
+  pub speed : stateAt (siteOf file) i .speed ≡ getD file (r + 2) 0

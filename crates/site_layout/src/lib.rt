@@ -14,13 +14,13 @@ ghost use Rattle.site_layout.specs.Laid.{firstIs, headValues, motionLeng
 // The most that H, C, S and the margin may be, and the most motions and sweeps of a motion.
 const HORIZON_LIMIT: usize = 1000;
 
-pub const CELL_LIMIT: usize = 255;
+pub const CELL_LIMIT: usize = 1000;
 
-pub const STATE_LIMIT: usize = 256;
+pub const STATE_LIMIT: usize = 1280;
 
 const MARGIN_LIMIT: usize = 20;
 
-pub const MOTION_LIMIT: usize = 2000;
+pub const MOTION_LIMIT: usize = 4000;
 
 const SWEEP_LIMIT: usize = 16;
 
@@ -32,9 +32,9 @@ const STATE_TAG: u8 = 2;
 const MOTION_TAG: u8 = 3;
 
 // Bytes of the values; of a motion's, those before its sweeps.
-pub const HEAD_SIZE: usize = 6;
+pub const HEAD_SIZE: usize = 7;
 
-pub const STATE_SIZE: usize = 2;
+pub const STATE_SIZE: usize = 3;
 
 pub const MOTION_SIZE: usize = 5;
 
@@ -55,13 +55,13 @@ fn head_values(file: &[u8], at: usize) -> bool
     if !in_range(fields::number_at(file, at), 1, HORIZON_LIMIT) {
         return false;
     }
-    if !in_range(fields::byte_at(file, at + 2), 1, CELL_LIMIT) {
+    if !in_range(fields::number_at(file, at + 2), 1, CELL_LIMIT) {
         return false;
     }
-    if !in_range(fields::number_at(file, at + 3), 1, STATE_LIMIT) {
+    if !in_range(fields::number_at(file, at + 4), 1, STATE_LIMIT) {
         return false;
     }
-    fields::byte_at(file, at + 5) <= MARGIN_LIMIT
+    fields::byte_at(file, at + 6) <= MARGIN_LIMIT
 }
 
 // The first field is a head with values in range.
@@ -149,7 +149,7 @@ fn all_motions(file: &[u8], start: usize) -> bool
     true
 }
 
-// The fields from `start` on are at most 2,000 motions.
+// The fields from `start` on are at most 4,000 motions.
 fn motions_laid(file: &[u8], start: usize) -> bool
     requires { ⌜ (complete (fieldsAt (now file) start) ≡ true) × (start ≤ length (now file)) ⌝ }
     ensures { λ r. ⌜ r ≡ motionsLaid (listed (fieldsAt (now (file .entry)) start)) ⌝ }
@@ -196,9 +196,9 @@ pub fn read_head(file: &[u8]) -> Head
     let at = h.start;
     Head {
         horizon: fields::number_at(file, at),
-        cells: fields::byte_at(file, at + 2),
-        states: fields::number_at(file, at + 3),
-        margin: fields::byte_at(file, at + 5),
+        cells: fields::number_at(file, at + 2),
+        states: fields::number_at(file, at + 4),
+        margin: fields::byte_at(file, at + 6),
         start: h.next,
     }
 }

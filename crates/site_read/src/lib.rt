@@ -37,14 +37,14 @@ pub fn state_cell(file: &[u8], i: usize) -> usize
     requires { ⌜ Laid (now file) × (i < length (siteOf (now file) .states)) ⌝ }
     ensures { λ r. ⌜ (r ≡ stateAt (siteOf (now (file .entry))) i .cell) × (r < 65536) ⌝ }
 {
-    fields::byte_at(file, state_value(file, i))
+    fields::number_at(file, state_value(file, i))
 }
 
 pub fn state_speed(file: &[u8], i: usize) -> u8
     requires { ⌜ Laid (now file) × (i < length (siteOf (now file) .states)) ⌝ }
     ensures { λ r. ⌜ r ≡ stateAt (siteOf (now (file .entry))) i .speed ⌝ }
 {
-    file[state_value(file, i) + 1]
+    file[state_value(file, i) + 2]
 }
 
 // A motion: its numbers, and the place and the count of its sweeps.

@@ -8,7 +8,7 @@ use native.Mathlib.Omega.{arith}
 use lib.ListN.{length, getD, take, drop, length-drop}
 use lib.Seq.{drop-drop, getD-drop}
 use Rattle.meaning.specs.Limits.{sweepSize}
-use Rattle.meaning.specs.Basics.{any, all}
+use Rattle.meaning.specs.Basics.{any, all, u16At}
 use Rattle.meaning.specs.Site.{Sweep, sweepsOf}
 use Rattle.meaning.proofs.BasicsLaws.{decide}
 use Rattle.site_sweeps.specs.Places.{sweepAt, sweepsAt, sweepOf, SweepIs}
@@ -16,13 +16,14 @@ use Rattle.site_sweeps.specs.declared.Sweep as ReadSweep
 
 -- the first of n sweeps, on a list
 take-sweep : (s : List ℕ) (n : ℕ) → sweepSize + sweepSize * n ≤ length s →
-    sweepsOf (take (sweepSize * suc n) s) ≡ record { cell = getD s 0 0; first = getD s 1 0; last = getD s 2 0 } ∷ sweepsOf (take (sweepSize * n) (drop sweepSize s))
+    sweepsOf (take (sweepSize * suc n) s) ≡ record { cell = u16At s 0; first = getD s 2 0; last = getD s 3 0 } ∷ sweepsOf (take (sweepSize * n) (drop sweepSize s))
 unfolding sweepsOf
 take-sweep [] n p = absurd (omega arith)
 take-sweep (c ∷ []) n p = absurd (omega arith)
-take-sweep (c ∷ a ∷ []) n p = absurd (omega arith)
-take-sweep (c ∷ a ∷ b ∷ s) n p =
-    let e : sweepSize * suc n ≡ suc (suc (suc (sweepSize * n))) = omega arith in
+take-sweep (c ∷ d ∷ []) n p = absurd (omega arith)
+take-sweep (c ∷ d ∷ a ∷ []) n p = absurd (omega arith)
+take-sweep (c ∷ d ∷ a ∷ b ∷ s) n p =
+    let e : sweepSize * suc n ≡ suc (suc (suc (suc (sweepSize * n)))) = omega arith in
     rw e
 
 pub sweeps-none : (file : List ℕ) (at n : ℕ) → n ≡ 0 → sweepsAt file at n ≡ []
@@ -36,7 +37,7 @@ sweeps-next file at (suc n) h p =
     let e = length-drop at file in
     let z : at + 0 ≡ at = omega arith in
     let m : suc n - 1 ≡ n = omega arith in
-    take-sweep (drop at file) n (omega arith) ∙ rw (getD-drop at file 0 0, getD-drop at file 1 0, getD-drop at file 2 0, drop-drop sweepSize at file, z, m)
+    take-sweep (drop at file) n (omega arith) ∙ rw (getD-drop at file 0 0, getD-drop at file 1 0, getD-drop at file 2 0, getD-drop at file 3 0, drop-drop sweepSize at file, z, m)
 
 -- how many they are, and each by its number
 pub sweeps-length : (n : ℕ) (file : List ℕ) (at : ℕ) → at + sweepSize * n ≤ length file → length (sweepsAt file at n) ≡ n

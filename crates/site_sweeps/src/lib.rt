@@ -10,7 +10,7 @@ ghost use Rattle.meaning.specs.Site.{covers, uses, sweepGood};
 ghost use Rattle.site_sweeps.specs.Places.{sweepAt, sweepsAt, sweepOf, SweepIs};
 
 // The bytes of a sweep in the file: its cell, its first and its last offset.
-pub const SWEEP_SIZE: usize = 3;
+pub const SWEEP_SIZE: usize = 4;
 
 // A sweep: its cell, and the first and the last offset at which it uses it.
 pub struct Sweep {
@@ -21,14 +21,14 @@ pub struct Sweep {
 
 // The sweep `i` of those from `at` on.
 pub fn read_sweep(file: &[u8], at: usize, i: usize) -> Sweep
-    requires { ⌜ at + sweepSize * i + 2 < length (now file) ⌝ }
+    requires { ⌜ at + sweepSize * i + 3 < length (now file) ⌝ }
     ensures { λ r. ⌜ SweepIs (sweepAt (now (file .entry)) (at + sweepSize * i)) r ⌝ }
 {
     let p = at + SWEEP_SIZE * i;
     Sweep {
-        cell: file[p] as usize,
-        first: file[p + 1],
-        last: file[p + 2],
+        cell: fields::number_at(file, p),
+        first: file[p + 2],
+        last: file[p + 3],
     }
 }
 

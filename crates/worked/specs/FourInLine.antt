@@ -1,4 +1,4 @@
--- The worked site 'Four in line' and its cases, as one statement about the definitions, from the 101 bytes of its site file.
+-- The worked site 'Four in line' and its cases, as one statement about the definitions, from the 116 bytes of its site file.
 -- Assumes nothing.
 use Prim.Native.Nat.{ℕ, zero, suc, _+_, _*_, _/_, _%_}
 use mathlib.Core.Path.{_≡_}
@@ -20,17 +20,17 @@ use Rattle.meaning.specs.EarliestOnly.{earliestNumber}
 -- the site with a margin: the last byte of its head
 abbrev pub siteWith : ℕ → List ℕ
 siteWith m =
-    1 ∷ 0 ∷ 6 ∷ 0 ∷ 12 ∷ 4 ∷ 0 ∷ 5 ∷ m
-    ∷ 2 ∷ 0 ∷ 2 ∷ 0 ∷ 0
-    ∷ 2 ∷ 0 ∷ 2 ∷ 1 ∷ 1
-    ∷ 2 ∷ 0 ∷ 2 ∷ 1 ∷ 0
-    ∷ 2 ∷ 0 ∷ 2 ∷ 2 ∷ 1
-    ∷ 2 ∷ 0 ∷ 2 ∷ 3 ∷ 0
-    ∷ 3 ∷ 0 ∷ 11 ∷ 0 ∷ 0 ∷ 0 ∷ 1 ∷ 2 ∷ 0 ∷ 0 ∷ 1 ∷ 1 ∷ 1 ∷ 2
-    ∷ 3 ∷ 0 ∷ 11 ∷ 0 ∷ 1 ∷ 0 ∷ 3 ∷ 1 ∷ 1 ∷ 0 ∷ 1 ∷ 2 ∷ 1 ∷ 1
-    ∷ 3 ∷ 0 ∷ 11 ∷ 0 ∷ 3 ∷ 0 ∷ 4 ∷ 2 ∷ 2 ∷ 0 ∷ 1 ∷ 3 ∷ 1 ∷ 2
-    ∷ 3 ∷ 0 ∷ 8 ∷ 0 ∷ 1 ∷ 0 ∷ 2 ∷ 2 ∷ 1 ∷ 0 ∷ 2
-    ∷ 3 ∷ 0 ∷ 11 ∷ 0 ∷ 2 ∷ 0 ∷ 3 ∷ 2 ∷ 1 ∷ 0 ∷ 1 ∷ 2 ∷ 1 ∷ 2
+    1 ∷ 0 ∷ 7 ∷ 0 ∷ 12 ∷ 0 ∷ 4 ∷ 0 ∷ 5 ∷ m
+    ∷ 2 ∷ 0 ∷ 3 ∷ 0 ∷ 0 ∷ 0
+    ∷ 2 ∷ 0 ∷ 3 ∷ 0 ∷ 1 ∷ 1
+    ∷ 2 ∷ 0 ∷ 3 ∷ 0 ∷ 1 ∷ 0
+    ∷ 2 ∷ 0 ∷ 3 ∷ 0 ∷ 2 ∷ 1
+    ∷ 2 ∷ 0 ∷ 3 ∷ 0 ∷ 3 ∷ 0
+    ∷ 3 ∷ 0 ∷ 13 ∷ 0 ∷ 0 ∷ 0 ∷ 1 ∷ 2 ∷ 0 ∷ 0 ∷ 0 ∷ 1 ∷ 0 ∷ 1 ∷ 1 ∷ 2
+    ∷ 3 ∷ 0 ∷ 13 ∷ 0 ∷ 1 ∷ 0 ∷ 3 ∷ 1 ∷ 0 ∷ 1 ∷ 0 ∷ 1 ∷ 0 ∷ 2 ∷ 1 ∷ 1
+    ∷ 3 ∷ 0 ∷ 13 ∷ 0 ∷ 3 ∷ 0 ∷ 4 ∷ 2 ∷ 0 ∷ 2 ∷ 0 ∷ 1 ∷ 0 ∷ 3 ∷ 1 ∷ 2
+    ∷ 3 ∷ 0 ∷ 9 ∷ 0 ∷ 1 ∷ 0 ∷ 2 ∷ 2 ∷ 0 ∷ 1 ∷ 0 ∷ 2
+    ∷ 3 ∷ 0 ∷ 13 ∷ 0 ∷ 2 ∷ 0 ∷ 3 ∷ 2 ∷ 0 ∷ 1 ∷ 0 ∷ 1 ∷ 0 ∷ 2 ∷ 1 ∷ 2
     ∷ []
 
 -- the cases of 'Four in line' have margin 0
@@ -192,7 +192,7 @@ numberOf (accepted a) = 0
 numberOf (refused n) = n
 
 abbrev pub oldSite : List ℕ
-oldSite = (1 ∷ 0 ∷ 5 ∷ 0 ∷ 12 ∷ 4 ∷ 0 ∷ 5 ∷ []) ++ drop 9 siteFile
+oldSite = (1 ∷ 0 ∷ 6 ∷ 0 ∷ 12 ∷ 0 ∷ 4 ∷ 0 ∷ 5 ∷ []) ++ drop 10 siteFile
 
 -- a byte 255 in cell 1 at tick 4: place 4 + 1 * 13 + 4
 unfoldable pub boardUnknown : List ℕ
@@ -204,11 +204,11 @@ boardTouching = closedWith 20 201 3 6 8 (closedWith 20 200 3 0 5 fresh)
 
 -- O: the site with one more motion, 0 to 2 in one tick, that lets go of cell 0 as it takes cell 1
 abbrev pub siteFileO : List ℕ
-siteFileO = siteFile ++ fieldsBytes (record { tag = 3; value = 0 ∷ 0 ∷ 0 ∷ 2 ∷ 1 ∷ 0 ∷ 0 ∷ 0 ∷ 1 ∷ 1 ∷ 1 ∷ [] } ∷ [])
+siteFileO = siteFile ++ fieldsBytes (record { tag = 3; value = 0 ∷ 0 ∷ 0 ∷ 2 ∷ 1 ∷ 0 ∷ 0 ∷ 0 ∷ 0 ∷ 0 ∷ 1 ∷ 1 ∷ 1 ∷ [] } ∷ [])
 
 -- fields of the day program's scripts: close 200 on cell 3 0-8, its withdrawal, B's route with the two bytes of its dwell, a post
 abbrev pub closing : Field
-closing = record { tag = 32; value = 200 ∷ 3 ∷ 0 ∷ 0 ∷ 0 ∷ 8 ∷ [] }
+closing = record { tag = 32; value = 200 ∷ 0 ∷ 3 ∷ 0 ∷ 0 ∷ 0 ∷ 8 ∷ [] }
 
 abbrev pub withdrawing : Field
 withdrawing = record { tag = 33; value = 200 ∷ [] }
@@ -232,24 +232,24 @@ script = fieldsBytes (closing ∷ routing ∷ posting ∷ [])
 -- two cells with the ticks 0 to 6, a standing state in each, and a motion of one tick each way
 abbrev pub twoCells : List ℕ
 twoCells =
-    1 ∷ 0 ∷ 6 ∷ 0 ∷ 6 ∷ 2 ∷ 0 ∷ 2 ∷ 0
-    ∷ 2 ∷ 0 ∷ 2 ∷ 0 ∷ 0
-    ∷ 2 ∷ 0 ∷ 2 ∷ 1 ∷ 0
-    ∷ 3 ∷ 0 ∷ 11 ∷ 0 ∷ 0 ∷ 0 ∷ 1 ∷ 1 ∷ 0 ∷ 0 ∷ 1 ∷ 1 ∷ 1 ∷ 1
-    ∷ 3 ∷ 0 ∷ 11 ∷ 0 ∷ 1 ∷ 0 ∷ 0 ∷ 1 ∷ 1 ∷ 0 ∷ 1 ∷ 0 ∷ 1 ∷ 1
+    1 ∷ 0 ∷ 7 ∷ 0 ∷ 6 ∷ 0 ∷ 2 ∷ 0 ∷ 2 ∷ 0
+    ∷ 2 ∷ 0 ∷ 3 ∷ 0 ∷ 0 ∷ 0
+    ∷ 2 ∷ 0 ∷ 3 ∷ 0 ∷ 1 ∷ 0
+    ∷ 3 ∷ 0 ∷ 13 ∷ 0 ∷ 0 ∷ 0 ∷ 1 ∷ 1 ∷ 0 ∷ 0 ∷ 0 ∷ 1 ∷ 0 ∷ 1 ∷ 1 ∷ 1
+    ∷ 3 ∷ 0 ∷ 13 ∷ 0 ∷ 1 ∷ 0 ∷ 0 ∷ 1 ∷ 0 ∷ 1 ∷ 0 ∷ 1 ∷ 0 ∷ 0 ∷ 1 ∷ 1
     ∷ []
 
 -- close cell 1 at 2, and route tug 7 from state 1 at tick 0 to state 1, where it is, with a dwell
 abbrev pub backFor : ℕ → List ℕ
 backFor dwell =
-    fieldsBytes (record { tag = 32; value = 200 ∷ 1 ∷ 0 ∷ 2 ∷ 0 ∷ 2 ∷ [] } ∷ record { tag = 34; value = 7 ∷ 0 ∷ 1 ∷ 0 ∷ 0 ∷ 0 ∷ 1 ∷ 0 ∷ dwell ∷ [] } ∷ [])
+    fieldsBytes (record { tag = 32; value = 200 ∷ 0 ∷ 1 ∷ 0 ∷ 2 ∷ 0 ∷ 2 ∷ [] } ∷ record { tag = 34; value = 7 ∷ 0 ∷ 1 ∷ 0 ∷ 0 ∷ 0 ∷ 1 ∷ 0 ∷ dwell ∷ [] } ∷ [])
 
 -- sites for the day program's areas: H, C, S standing states of cell 0, no motion
 abbrev pub bareSite : ℕ → ℕ → ℕ → List ℕ
 bareSite horizon cells states =
     fieldsBytes (
-    record { tag = 1; value = horizon / 256 ∷ horizon % 256 ∷ cells ∷ states / 256 ∷ states % 256 ∷ 0 ∷ [] }
-    ∷ replicate states (record { tag = 2; value = 0 ∷ 0 ∷ [] }))
+    record { tag = 1; value = horizon / 256 ∷ horizon % 256 ∷ cells / 256 ∷ cells % 256 ∷ states / 256 ∷ states % 256 ∷ 0 ∷ [] }
+    ∷ replicate states (record { tag = 2; value = 0 ∷ 0 ∷ 0 ∷ [] }))
 
 -- a route of tug 7 from state 0 at the tick to state 0
 abbrev pub stayingFor : ℕ → ℕ → List ℕ
@@ -265,7 +265,7 @@ line n e t = record { number = n; edition = e; arrival = t }
 -- ---- the cases; start 0, tick 0 and goal 4 unless they say otherwise
 
 pub record Starred : Type 0 where
-  pub size : length siteFile ≡ 101
+  pub size : length siteFile ≡ 116
   pub A : routed fresh (node 0 0) 4 ≡ found (move 0 ∷ move 1 ∷ move 2 ∷ []) 5
   pub B : routed boardB (node 0 0) 4 ≡ found (wait 5 ∷ move 0 ∷ move 1 ∷ move 2 ∷ []) 10
   pub B-light : lightFor boardB (node 0 0) 4 0 ≡ lightB
@@ -420,27 +420,27 @@ pub record Computed : Type 0 where
   -- an empty script prints one line, unless the open is refused; one or two bytes are a cut field, and a field has no line more
   pub day-quiet : dayLines siteFile [] ≡ line 0 0 0 ∷ []
   pub day-quiet-refused : dayLines siteFileO [] ≡ line 6 0 0 ∷ []
-  pub day-quiet-cut-site : dayLines (take 100 siteFile) [] ≡ line 2 0 0 ∷ []
+  pub day-quiet-cut-site : dayLines (take 115 siteFile) [] ≡ line 2 0 0 ∷ []
   pub day-cut-1 : dayLines siteFile (33 ∷ []) ≡ line 99 0 0 ∷ []
   pub day-cut-2 : dayLines siteFile (33 ∷ 0 ∷ []) ≡ line 99 0 0 ∷ []
   pub day-close : dayLines siteFile (fieldsBytes (closing ∷ [])) ≡ line 0 1 0 ∷ []
   -- I by script: start 1, tick 3
   pub day-start : dayLines siteFile (fieldsBytes (
-      record { tag = 32; value = 200 ∷ 2 ∷ 0 ∷ 4 ∷ 0 ∷ 4 ∷ [] } ∷ record { tag = 34; value = 7 ∷ 0 ∷ 1 ∷ 0 ∷ 3 ∷ 0 ∷ 4 ∷ 0 ∷ 0 ∷ [] } ∷ []))
+      record { tag = 32; value = 200 ∷ 0 ∷ 2 ∷ 0 ∷ 4 ∷ 0 ∷ 4 ∷ [] } ∷ record { tag = 34; value = 7 ∷ 0 ∷ 1 ∷ 0 ∷ 3 ∷ 0 ∷ 4 ∷ 0 ∷ 0 ∷ [] } ∷ []))
       ≡ line 0 1 0 ∷ line 0 1 9 ∷ []
   -- a closure after the grant: the light is of an older edition
-  pub day-stale : dayLines siteFile (fieldsBytes (closing ∷ routing ∷ record { tag = 32; value = 201 ∷ 0 ∷ 0 ∷ 12 ∷ 0 ∷ 12 ∷ [] } ∷ posting ∷ []))
+  pub day-stale : dayLines siteFile (fieldsBytes (closing ∷ routing ∷ record { tag = 32; value = 201 ∷ 0 ∷ 0 ∷ 0 ∷ 12 ∷ 0 ∷ 12 ∷ [] } ∷ posting ∷ []))
       ≡ line 0 1 0 ∷ line 0 1 10 ∷ line 0 2 0 ∷ line 16 2 0 ∷ []
-  -- boards of 255,259, 65,537 and 65,536 bytes in an area of 65,536
-  pub day-board-largest : dayLines (bareSite 1000 255 1) (staying 0) ≡ line 7 0 0 ∷ []
+  -- boards of 1,001,004, 65,537 and 65,536 bytes in an area of 65,536
+  pub day-board-largest : dayLines (bareSite 1000 1000 1) (staying 0) ≡ line 7 0 0 ∷ []
   pub day-board-65537 : dayLines (bareSite 922 71 1) (staying 922) ≡ line 7 0 0 ∷ []
   pub day-board-65536 : dayLines (bareSite 507 129 1) (staying 507) ≡ line 0 0 507 ∷ []
   -- searches of 17,000 and of 16,384 words in one of 16,384
   pub day-words-17000 : dayLines (bareSite 999 1 17) (staying 999) ≡ line 14 0 0 ∷ []
   pub day-words-16384 : dayLines (bareSite 511 1 32) (staying 511) ≡ line 0 0 511 ∷ []
   -- other lengths
-  pub day-close-5 : dayLines siteFile (sized 32 5) ≡ line 99 0 0 ∷ []
-  pub day-close-7 : dayLines siteFile (sized 32 7) ≡ line 99 0 0 ∷ []
+  pub day-close-6 : dayLines siteFile (sized 32 6) ≡ line 99 0 0 ∷ []
+  pub day-close-8 : dayLines siteFile (sized 32 8) ≡ line 99 0 0 ∷ []
   pub day-withdraw-0 : dayLines siteFile (sized 33 0) ≡ line 99 0 0 ∷ []
   pub day-withdraw-2 : dayLines siteFile (sized 33 2) ≡ line 99 0 0 ∷ []
   pub day-post-1 : dayLines siteFile (sized 35 1) ≡ line 99 0 0 ∷ []

@@ -1,3 +1,4 @@
 pub mod FourInLine
+pub mod Halls
 pub mod Runs
 pub mod TravelTimes

@@ -14,9 +14,6 @@ use Rattle.day_calls.proofs.perform.Tie as tie
 enum-known-o : tie.Need-enum-known-o
 enum-known-o c = search needs
 
-cast-close : tie.Need-cast-close
-cast-close c = search needs
-
 close-requires : tie.Need-close-requires
 close-requires c κs = search needs
 
@@ -124,7 +121,6 @@ perform-spec =
     tie.close
     (tie.spec
     enum-known-o
-    cast-close
     close-requires
     changed-requires
     enum-known-o-2

@@ -1,4 +1,4 @@
--- `search_arrivals::narrow_sweep` meets its contract: up to eight ticks one run has them all.
+-- `search_arrivals::narrow_sweep` meets its contract: up to four ticks one run has them all.
 -- Assumes nothing.
 use Prim.Native.Nat.{ℕ, suc, _-_}
 use mathlib.Core.Path.{_≡_, sym, ap, _∙_}

@@ -3,7 +3,6 @@
 use Prim.Native.Nat.{_-_}
 use Rattle.meaning.specs.Site.{siteOf}
 use Rattle.meaning.specs.Board.{free}
-use Rattle.meaning.proofs.SiteLaws.{read-well}
 use Rattle.plan_steps.proofs.Laws.{known}
 use Rattle.search_back.proofs.WalkLaws.{Walked, walked-start, walked-more, walked-hit, walked-last, walked-end, first-found, first-none}
 use borrow.Author.Needs.{needs}
@@ -19,22 +18,19 @@ abbrev μ-loop : tie.MeasureT-loop
 
 -- the place where the function starts
 abbrev start : tie.At-loop Inv-loop μ-loop → tie.Start Inv-loop μ-loop
-start l = l .before .before .before .before .before .before
+start l = l .before .before .before .before .before .before .before
 
 add-listed-at : tie.Need-add-listed-at Inv-loop μ-loop
 add-listed-at c = search needs
 
 listed-at-requires : tie.Need-listed-at-requires Inv-loop μ-loop
-listed-at-requires c κs =
-    let b = c .before .before .before .before in
-    let k = known (b .pre .0 .0) in
-    omega (arith, k .states, read-well _ _ (b .pre .0 .0 .read) .states-range .1)
+listed-at-requires c κs = search needs
 
 loop-holds : tie.Need-loop-holds Inv-loop μ-loop
 loop-holds c =
-    let b = c .before .before .before .before .before in
+    let b = c .before .before .before .before .before .before in
     let k = known (b .pre .0 .0) in
-    walked-start _ _ _ _ _ _ _ _ _ (b .pre .1 .1) (λ i h. b .pre .0 .1 .1 i (omega (arith, k .motions)) .shows .to) (c .listed-at .ensures)
+    walked-start _ _ _ _ _ _ _ _ _ (b .pre .1 .1 .0) (λ i h. b .pre .0 .1 .1 i (omega (arith, k .motions)) .shows .to) (c .listed-at .ensures)
 
 move-hit-requires : tie.Need-move-hit-requires Inv-loop μ-loop
 move-hit-requires c κs = search needs

@@ -9,8 +9,8 @@ use Rattle.search_back.proofs.word_at.Statement.{statement}
 use Rattle.search_back.proofs.word_at.Tie as tie
 
 -- the place where the function starts
-abbrev base : tie.After-shared-slice-known5 → tie.Start
-base p = p .before .before .before .before .before
+abbrev base : tie.After-shared-slice-known6 → tie.Start
+base p = p .before .before .before .before .before .before
 
 wait-hit-requires : tie.Need-wait-hit-requires
 wait-hit-requires c κs = search needs

@@ -2,10 +2,9 @@
 -- Assumes nothing.
 use Prim.Native.Nat.{_-_, _≤_}
 use native.Mathlib.Omega.{arith}
-use mathlib.Core.Path.{_≡_}
+use mathlib.Core.Path.{_≡_, refl, _∙_}
 use lib.ListN.{length}
 use borrow.Author.Needs.{needs}
-use Rattle.search_sizes.specs.Sizes.{stateRows}
 use Rattle.search_step.specs.Sets.{Closed}
 use Rattle.search_spread.specs.Spread.{Stepped, StillTried, Progress}
 use Rattle.search_spread.proofs.StepsLaws.{stepped-start, stepped-then}
@@ -19,7 +18,7 @@ Inv-loop states motions sweeps tab allowed₀ known₀ reached₀ lists grown₀
     (s ≤ n)
     × Stepped cells n k block states motions sweeps tab known₀ allowed₀ reached₀ known allowed reached
     (λ g. Closed n k states motions sweeps g block) (StillTried n k states motions sweeps lists block grown₀ reached₀ grown reached)
-    × (length grown ≡ stateRows)
+    × (length grown ≡ length grown₀)
     × Progress reached₀ reached (Quiet n turn s grown)
 
 abbrev μ-loop : tie.MeasureT-loop
@@ -27,9 +26,8 @@ abbrev μ-loop : tie.MeasureT-loop
 
 loop-holds : tie.Need-loop-holds Inv-loop μ-loop
 loop-holds c =
-    let start = c .before .before .before .before .before .before in
-    let a = start .args in
-    (omega arith, stepped-start (a .known .now) (a .allowed .now) (a .reached .now) (λ g all tried. tried), start .pre .1 .1 .1 .1, progress-none _ (λ x small early. absurd (omega arith)))
+    let a = c .before .before .before .before .before .before .before .before .before .args in
+    (omega arith, stepped-start (a .known .now) (a .allowed .now) (a .reached .now) (λ g all tried. tried), refl, progress-none _ (λ x small early. absurd (omega arith)))
 
 in-turn-requires : tie.Need-in-turn-requires Inv-loop μ-loop
 in-turn-requires c κs = search needs
@@ -38,10 +36,16 @@ spread-one-requires : tie.Need-spread-one-requires Inv-loop μ-loop
 spread-one-requires c κs =
     let after-turn = c .before .before .before .before in
     let turn = after-turn .before .before in
-    let p = turn .before .before .before .before .before .before .before .pre in
+    let p = turn .before .before .before .before .before .before .before .before .before .before .pre in
     let i = turn .loop .inv in (
       (p .0 .0, (p .0 .1 .0, (p .0 .1 .1 .0, (p .0 .1 .1 .1, after-turn .in-turn .ensures .1)))),
-      (p .1 .0, (omega (arith, i .1 .sized, p .1 .1 .0), (omega (arith, i .1 .kept .sized, p .1 .1 .1 .0), i .2))),
+      (
+        p .1 .0,
+        (
+          (omega (arith, i .1 .sized .0, p .1 .1 .0 .0), (omega (arith, i .1 .sized .1, p .1 .1 .0 .1 .0), omega (arith, i .1 .kept .sized, p .1 .1 .0 .1 .1))),
+          (p .1 .1 .1 .0, omega (arith, i .2, p .1 .1 .1 .1)),
+        ),
+      ),
     )
 
 add-s : tie.Need-add-s Inv-loop μ-loop
@@ -52,31 +56,37 @@ loop-less c = search needs
 
 loop-again : tie.Need-loop-again Inv-loop μ-loop
 loop-again c =
-    let after-spread = c .before .before .before .before in
+    let after-spread = c .before .before .before .before .before .before .before .before in
     let after-turn = after-spread .before .before .before .before .before in
     let inside = after-turn .before in
     let turn = inside .before in
-    let a = turn .before .before .before .before .before .before .before .args in
+    let a = turn .before .before .before .before .before .before .before .before .before .before .args in
     let i = turn .loop .inv in
     let e = after-spread .spread-one .ensures in (
       omega arith,
       stepped-then (λ g before now all tried. now all (before all tried)) (i .1) (e .0),
-      e .1 .0,
+      e .1 .0 ∙ i .2,
       progress-then
           (λ before now. quiet-more (turn .loop .grown) (after-spread .spread-one .last .1 .1 .1 .1 .1 .1 .1 .1 .0) (a .n) (a .turn) (turn .loop .s) _ (inside .loop-test .taken) (after-turn .in-turn .ensures .0) before now)
           (i .3) (e .1 .1),
     )
 
 same-length : tie.Need-same-length Inv-loop μ-loop
-same-length c = c .before .loop .inv .1 .sized
+same-length c = c .before .loop .inv .1 .sized .0
 
 same-length-2 : tie.Need-same-length-2 Inv-loop μ-loop
-same-length-2 c = c .before .loop .inv .1 .kept .sized
+same-length-2 c = c .before .loop .inv .1 .sized .1
+
+same-length-3 : tie.Need-same-length-3 Inv-loop μ-loop
+same-length-3 c = c .before .loop .inv .1 .kept .sized
+
+same-length-4 : tie.Need-same-length-4 Inv-loop μ-loop
+same-length-4 c = c .before .loop .inv .2
 
 returns : tie.Need-returns Inv-loop μ-loop
 returns c =
     let turn = c .before in
-    let a = turn .before .before .before .before .before .before .before .args in
+    let a = turn .before .before .before .before .before .before .before .before .before .before .args in
     let i = turn .loop .inv in
     (i .1, (i .2, progress-map (quiet-all (turn .loop .grown) (a .n) (a .turn) (turn .loop .s) (omega arith)) (i .3)))
 
@@ -94,4 +104,6 @@ spread-all-spec =
     loop-again
     same-length
     same-length-2
+    same-length-3
+    same-length-4
     returns)

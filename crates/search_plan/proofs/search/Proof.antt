@@ -1,114 +1,92 @@
--- `search_plan::search` meets its contract: each part is handed what the ones before it leave.
+-- `search_plan::search` meets its contract: without a plan at once, or from the search.
 -- Assumes nothing.
 use native.Mathlib.Omega.{arith}
 use borrow.Author.Needs.{needs}
-use Prim.Native.Nat.{ℕ, _+_}
 use borrow.Author.Tests.{not-true, not-false}
-use mathlib.Core.Path.{sym, ap, _∙_}
-use Rattle.meaning.specs.Site.{siteOf}
+use mathlib.Core.Path.{_≡_, sym, _∙_}
+use Rattle.meaning.specs.Site.{siteOf, cellOf}
 use Rattle.meaning.specs.Board.{free}
-use Rattle.site.specs.declared.Sizes.{Sizes}
-use Rattle.search_site.specs.Arrays.{States, Motions}
+use Rattle.site_read.proofs.Laws.{read-laid}
 use Rattle.search_reach.specs.Explored.{EndsRight}
-use Rattle.search_plan.proofs.PartsLaws.{same-states, ranges, states-in, row, start-is, ends-in, motions-in, arrays-in, start-held, never-unloads, enough}
+use Rattle.search_plan.proofs.PartsLaws.{same-states, ranges, row, start-is, ends-in, start-held, never-unloads}
 use Rattle.search_plan.proofs.search.Statement.{statement}
 use Rattle.search_plan.proofs.search.Tie as tie
 
--- ---- what holds once a part is there
+-- where the function began, and where the start is asked
+abbrev start : tie.After-struct-known2 → tie.Start
+start c = c .before .before .before .before
 
-states-there : (c : tie.After-decode-states) → States (c .before .before .before .args .sizes .states) (c .decode-states .result)
-states-there c = states-in _ (c .before .before .before .args .board .now) _ _ (c .before .before .before .pre) _ (c .decode-states .ensures) (omega (arith, c .decode-states .ok))
+abbrev asked : tie.After-is-free → tie.Start
+asked c = start (c .before .before)
 
-ends-there : (c : tie.After-ends-of) → let start = c .before .before .before .before .before .before .before .before .before .before .before .before .before .before in
-    EndsRight (siteOf (start .args .file .now)) (free (siteOf (start .args .file .now)) (start .args .board .now)) (start .args .trip .goal) (start .args .trip .dwell) (start .args .trip .tick) (c .ends-of .result)
-ends-there c = ends-in _ (c .before .before .before .before .before .before .before .before .before .before .before .before .before .before .args .board .now) _ _ (c .before .before .before .before .before .before .before .before .before .before .before .before .before .before .pre) (c .before .before .before .before .before .before .before .before .before .before .before .decode-states .result) (c .before .before .before .before .before .before .before .before .before .before .before .decode-states .ensures) _ (c .ends-of .result) (c .before .before .cell-of2 .ensures) (c .ends-of .ensures)
+abbrev unloading : tie.After-ends-of → tie.After-is-free
+unloading c = c .before .before .before .before .before
 
-motions-there : (c : tie.After-decode-motions) → Motions (c .before .before .before .before .before .before .before .before .before .before .before .before .before .before .before .before .before .before .args .sizes .motions) (c .decode-motions .result)
-motions-there c = motions-in _ (c .before .before .before .before .before .before .before .before .before .before .before .before .before .before .before .before .before .before .args .board .now) _ _ (c .before .before .before .before .before .before .before .before .before .before .before .before .before .before .before .before .before .before .pre) (c .before .before .before .before .before .before .before .before .before .before .before .before .before .before .before .decode-states .result) (c .before .before .before .before .before .before .before .before .before .before .before .before .before .before .before .decode-states .ensures) _ (c .decode-motions .ensures) (omega (arith, c .decode-motions .ok))
+-- whether the start is free, and where the tug can unload
+start-there : (c : tie.After-is-free) → let b = asked c in
+    c .is-free .result ≡ free (siteOf (b .args .file .now)) (b .args .board .now) (cellOf (siteOf (b .args .file .now)) (b .args .trip .start)) (b .args .trip .tick)
+start-there c = let b = asked c in start-is _ (b .args .board .now) _ _ (b .pre) _ _ (c .before .state-cell .ensures .0) (c .is-free .ensures)
 
--- ---- the needs
-
-decode-states-requires : tie.Need-decode-states-requires
-decode-states-requires c κs = (c .before .before .pre .ready .read, same-states _ (c .before .before .args .board .now) _ _ (c .before .before .pre))
+ends-there : (c : tie.After-ends-of) → let b = asked (unloading c) in
+    EndsRight (siteOf (b .args .file .now)) (free (siteOf (b .args .file .now)) (b .args .board .now)) (b .args .trip .goal) (b .args .trip .dwell) (b .args .trip .tick) (c .ends-of .result)
+ends-there c = let b = asked (unloading c) in ends-in _ (b .args .board .now) _ _ (b .pre) _ (c .ends-of .result) (c .before .before .state-cell2 .ensures .0) (c .ends-of .ensures)
 
 cast-tick : tie.Need-cast-tick
 cast-tick c = search needs
 
-slice-aggregate-cell-of : tie.Need-slice-aggregate-cell-of
-slice-aggregate-cell-of c = search needs
+cast-state-cell : tie.Need-cast-state-cell
+cast-state-cell c = search needs
 
-cast-cell-of : tie.Need-cast-cell-of
-cast-cell-of c = search needs
-
-cell-of-requires : tie.Need-cell-of-requires
-cell-of-requires c κs = (states-there (c .before .before .before), ranges _ (c .before .before .before .before .before .before .args .board .now) _ _ (c .before .before .before .before .before .before .pre) .start-below)
+state-cell-requires : tie.Need-state-cell-requires
+state-cell-requires c κs =
+    let b = start c in
+    let below = ranges _ (b .args .board .now) _ _ (b .pre) .start-below in
+    (read-laid (b .args .file .now) _ (b .pre .ready .read), omega (arith, same-states _ (b .args .board .now) _ _ (b .pre)))
 
 is-free-requires : tie.Need-is-free-requires
-is-free-requires c κs = row _ (c .before .before .before .before .before .before .before .args .board .now) _ _ (c .before .before .before .before .before .before .before .pre) (c .before .before .before .before .decode-states .result) (c .before .before .before .before .decode-states .ensures) _ _ (ranges _ (c .before .before .before .before .before .before .before .args .board .now) _ _ (c .before .before .before .before .before .before .before .pre) .start-below) (c .cell-of .ensures)
+is-free-requires c κs =
+    let b = start (c .before) in
+    row _ (b .args .board .now) _ _ (b .pre) _ _ (ranges _ (b .args .board .now) _ _ (b .pre) .start-below) (c .state-cell .ensures .0)
 
 returns : tie.Need-returns
-returns c = start-held _ (c .before .before .before .before .before .before .before .before .before .args .board .now) _ _ (c .before .before .before .before .before .before .before .before .before .pre) _ (start-is _ (c .before .before .before .before .before .before .before .before .before .args .board .now) _ _ (c .before .before .before .before .before .before .before .before .before .pre) (c .before .before .before .before .before .before .decode-states .result) (c .before .before .before .before .before .before .decode-states .ensures) _ _ (c .before .before .cell-of .ensures) (c .before .is-free .ensures)) (not-true _ (c .if1 .taken)) _
+returns c =
+    let b = asked (c .before) in
+    start-held _ (b .args .board .now) _ _ (b .pre) _ (start-there (c .before)) (not-true _ (c .if1 .taken)) _
 
-slice-aggregate-cell-of-2 : tie.Need-slice-aggregate-cell-of-2
-slice-aggregate-cell-of-2 c = search needs
+cast-state-cell-2 : tie.Need-cast-state-cell-2
+cast-state-cell-2 c = search needs
 
-cast-cell-of-2 : tie.Need-cast-cell-of-2
-cast-cell-of-2 c = search needs
-
-cell-of-requires-2 : tie.Need-cell-of-requires-2
-cell-of-requires-2 c κs = (states-there (c .before .before .before .before .before .before .before .before), ranges _ (c .before .before .before .before .before .before .before .before .before .before .before .args .board .now) _ _ (c .before .before .before .before .before .before .before .before .before .before .before .pre) .goal-below)
+state-cell-requires-2 : tie.Need-state-cell-requires-2
+state-cell-requires-2 c κs =
+    let b = asked (c .before .before) in
+    let below = ranges _ (b .args .board .now) _ _ (b .pre) .goal-below in
+    (read-laid (b .args .file .now) _ (b .pre .ready .read), omega (arith, same-states _ (b .args .board .now) _ _ (b .pre)))
 
 cast-ends-of : tie.Need-cast-ends-of
 cast-ends-of c = search needs
 
 ends-of-requires : tie.Need-ends-of-requires
-ends-of-requires c κs = row _ (c .before .before .before .before .before .before .before .before .before .before .before .before .before .args .board .now) _ _ (c .before .before .before .before .before .before .before .before .before .before .before .before .before .pre) (c .before .before .before .before .before .before .before .before .before .before .decode-states .result) (c .before .before .before .before .before .before .before .before .before .before .decode-states .ensures) _ _ (ranges _ (c .before .before .before .before .before .before .before .before .before .before .before .before .before .args .board .now) _ _ (c .before .before .before .before .before .before .before .before .before .before .before .before .before .pre) .goal-below) (c .before .cell-of2 .ensures)
+ends-of-requires c κs =
+    let b = asked (c .before .before .before .before) in
+    row _ (b .args .board .now) _ _ (b .pre) _ _ (ranges _ (b .args .board .now) _ _ (b .pre) .goal-below) (c .before .state-cell2 .ensures .0)
 
 some-end-requires : tie.Need-some-end-requires
-some-end-requires c κs = omega (arith, ranges _ (c .before .before .before .before .before .before .before .before .before .before .before .before .before .before .before .args .board .now) _ _ (c .before .before .before .before .before .before .before .before .before .before .before .before .before .before .before .pre) .short)
+some-end-requires c κs =
+    let b = asked (unloading (c .before)) in
+    omega (arith, ranges _ (b .args .board .now) _ _ (b .pre) .short)
 
 returns-2 : tie.Need-returns-2
-returns-2 c = never-unloads _ (c .before .before .before .before .before .before .before .before .before .before .before .before .before .before .before .before .before .args .board .now) _ _ (c .before .before .before .before .before .before .before .before .before .before .before .before .before .before .before .before .before .pre) (c .before .before .before .ends-of .result) (ends-there (c .before .before .before)) (c .before .some-end .ensures (not-true _ (c .if2 .taken))) _
-
-decode-motions-requires : tie.Need-decode-motions-requires
-decode-motions-requires c κs = ((c .before .before .before .before .before .before .before .before .before .before .before .before .before .before .before .before .before .pre .ready .read, ap (λ (k : Sizes). k .start) (c .before .before .before .before .before .before .before .before .before .before .before .before .before .before .before .before .before .pre .ready .sizes)), ap (λ (k : Sizes). k .motions) (c .before .before .before .before .before .before .before .before .before .before .before .before .before .before .before .before .before .pre .ready .sizes))
-
-slice-aggregate-longest-span : tie.Need-slice-aggregate-longest-span
-slice-aggregate-longest-span c = search needs
-
-longest-span-requires : tie.Need-longest-span-requires
-longest-span-requires c κs = motions-there (c .before)
-
-add-table-of : tie.Need-add-table-of
-add-table-of c = search needs
-
-table-of-requires : tie.Need-table-of-requires
-table-of-requires c κs = search needs
-
-add-tables : tie.Need-add-tables
-add-tables c = search needs
-
-slice-aggregate-search-sized : tie.Need-slice-aggregate-search-sized
-slice-aggregate-search-sized c = sym (c .before .before .before .before .before .before .before .before .before .before .before .before .before .before .before .before .before .before .before .decode-states .ok .1 .0 .1)
-
-slice-aggregate-search-sized-2 : tie.Need-slice-aggregate-search-sized-2
-slice-aggregate-search-sized-2 c = search needs
+returns-2 c =
+    let e = c .before .before .before in
+    let b = asked (unloading e) in
+    never-unloads _ (b .args .board .now) _ _ (b .pre) (e .ends-of .result) (ends-there e) (c .before .some-end .ensures (not-true _ (c .if2 .taken))) _
 
 search-sized-requires : tie.Need-search-sized-requires
 search-sized-requires c κs =
-    let start = c .before .before .before .before .before .before .before .before .before .before .before .before .before .before .before .before .before .before .before .before .before .before .before .before .before in
-    let longest = c .before .before .before .before .before .longest-span .ensures in
-    record {
-      asked = start .pre;
-      arrays = arrays-in _ (c .before .before .before .before .before .before .before .before .before .before .before .before .before .before .before .before .before .before .before .before .before .before .before .before .before .args .board .now) _ _ (c .before .before .before .before .before .before .before .before .before .before .before .before .before .before .before .before .before .before .before .before .before .before .before .before .before .pre) (c .before .before .before .before .before .before .before .before .before .before .before .before .before .before .before .before .before .before .before .before .before .before .decode-states .result) (c .before .before .before .before .before .before .before .before .before .before .before .before .before .before .before .before .before .before .before .before .before .before .decode-states .ensures) (c .before .before .before .before .before .before .before .decode-motions .result) (c .before .before .before .before .before .before .before .decode-motions .ensures) (omega (arith, c .before .before .before .before .before .before .before .before .before .before .before .before .before .before .before .before .before .before .before .before .before .before .decode-states .ok)) (omega (arith, c .before .before .before .before .before .before .before .decode-motions .ok));
-      states = c .before .before .before .before .before .before .before .before .before .before .before .before .before .before .before .before .before .before .before .before .before .before .decode-states .ensures;
-      motions = c .before .before .before .before .before .before .before .decode-motions .ensures;
-      some = omega arith;
-      few = omega (arith, c .before .before .before .before .table-of .ensures .1);
-      enough = enough _ _ (c .before .before .before .before .before .before .before .decode-motions .result) (longest .1 .0) (longest .1 .1) _ (ap (λ (n : ℕ). n + 1) (c .before .before .before .before .table-of .ensures .0));
-      start-free = sym (start-is _ (c .before .before .before .before .before .before .before .before .before .before .before .before .before .before .before .before .before .before .before .before .before .before .before .before .before .args .board .now) _ _ (c .before .before .before .before .before .before .before .before .before .before .before .before .before .before .before .before .before .before .before .before .before .before .before .before .before .pre) (c .before .before .before .before .before .before .before .before .before .before .before .before .before .before .before .before .before .before .before .before .before .before .decode-states .result) (c .before .before .before .before .before .before .before .before .before .before .before .before .before .before .before .before .before .before .before .before .before .before .decode-states .ensures) _ _ (c .before .before .before .before .before .before .before .before .before .before .before .before .before .before .before .before .before .before .cell-of .ensures) (c .before .before .before .before .before .before .before .before .before .before .before .before .before .before .before .before .before .is-free .ensures)) ∙ not-false _ (c .before .before .before .before .before .before .before .before .before .before .before .before .before .before .before .before .if1 .left);
-      ends-right = ends-there (c .before .before .before .before .before .before .before .before .before .before .before);
-    }
+    let e = c .before .before .before .before .before in
+    let there = unloading e in
+    let b = asked there in
+    record { asked = b .pre; start-free = sym (start-there there) ∙ not-false _ (e .before .before .before .before .if1 .left); ends-right = ends-there e }
 
 returns-3 : tie.Need-returns-3
 returns-3 c = c .search-sized .ensures
@@ -117,27 +95,16 @@ pub search-spec : {M : Type 1} → statement M
 search-spec =
     tie.close
     (tie.spec
-    decode-states-requires
     cast-tick
-    slice-aggregate-cell-of
-    cast-cell-of
-    cell-of-requires
+    cast-state-cell
+    state-cell-requires
     is-free-requires
     returns
-    slice-aggregate-cell-of-2
-    cast-cell-of-2
-    cell-of-requires-2
+    cast-state-cell-2
+    state-cell-requires-2
     cast-ends-of
     ends-of-requires
     some-end-requires
     returns-2
-    decode-motions-requires
-    slice-aggregate-longest-span
-    longest-span-requires
-    add-table-of
-    table-of-requires
-    add-tables
-    slice-aggregate-search-sized
-    slice-aggregate-search-sized-2
     search-sized-requires
     returns-3)

@@ -6,6 +6,13 @@ use Rattle.search_plan.proofs.PartsLaws.{ranges, missing, found, planne
 use Rattle.search_plan.proofs.search_in.Statement.{statement}
 use Rattle.search_plan.proofs.search_in.Tie as tie
 
+-- where the function began, and where the blocks are searched
+abbrev start : tie.After-explore-arg6 → tie.Start
+start c = c .before .before .before .before .before .before .before .before .before .before .before .before .before .before .before .before .before .before .before
+
+abbrev explored : tie.After-struct-known4 → tie.After-explore
+explored c = c .before .before .before .before .before .before .before .before .before .before .before .before .before
+
 cast-tick : tie.Need-cast-tick
 cast-tick c = search needs
 
@@ -17,10 +24,11 @@ cast-explore c = search needs
 
 explore-requires : tie.Need-explore-requires
 explore-requires c κs =
-    let start = c .before .before .before .before .before .before .before .before .before .before .before .before .before in
-    let p = start .pre .0 in
-    let r = ranges _ (start .args .board .now) _ _ (p .asked) in
-    ((p .asked .ready, p .arrays), (start .pre .1 .0, (start .pre .1 .1, ((r .start-below, (r .goal-below, r .in-time)), p .start-free))))
+    let b = start c in
+    let p = b .pre .0 in
+    let q = p .possible in
+    let r = ranges _ (b .args .board .now) _ _ (q .asked) in
+    ((q .asked .ready, p .arrays), (b .pre .1 .0 .0, (b .pre .1 .1 .0, ((b .pre .1 .0 .1, b .pre .1 .1 .1), ((r .start-below, (r .goal-below, r .in-time)), q .start-free)))))
 
 same-length : tie.Need-same-length
 same-length c = search needs
@@ -31,32 +39,6 @@ same-length-2 c = search needs
 same-length-3 : tie.Need-same-length-3
 same-length-3 c = search needs
 
-returns : tie.Need-returns
-returns c =
-    let start = c .before .before .before .before .before .before .before .before .before .before .before .before .before .before .before .before .before .before .before .before .before .before in
-    let p = start .pre .0 in
-    let e = c .before .before .before .before .before .before .before .before .explore in
-    missing _ (start .args .board .now) _ _ (p .asked) (c .before .before .before .before .before .before .before .before .explore .last .1 .1 .1 .1 .1 .1 .1 .1 .1 .1 .1 .1 .0) (e .result) (e .ensures .1 .0 _ (p .ends-right)) _ (c .if1 .taken)
-
-trace-back-requires : tie.Need-trace-back-requires
-trace-back-requires c κs =
-    let start = c .before .before .before .before .before .before .before .before .before .before .before .before .before .before .before .before .before .before .before .before .before .before .before .before in
-    let p = start .pre .0 in
-    let r = ranges _ (start .args .board .now) _ _ (p .asked) in
-    let e = c .before .before .before .before .before .before .before .before .before .before .explore in (
-      (p .asked .ready, (p .arrays .states, p .states)),
-      (
-        (p .arrays .motions, p .motions),
-        (
-          (r .goal-below, omega (arith, e .ensures .0 .0, start .pre .1 .0 .reached)),
-          (
-            _,
-            found _ (start .args .board .now) _ _ (p .asked) (c .before .before .before .before .before .before .before .before .before .before .explore .last .1 .1 .1 .1 .1 .1 .1 .1 .1 .1 .1 .1 .0) (e .result) (e .ensures .1 .0 _ (p .ends-right)) (omega (arith, c .before .before .if1 .left)) (e .ensures .1 .1),
-          ),
-        ),
-      ),
-    )
-
 same-length-4 : tie.Need-same-length-4
 same-length-4 c = search needs
 
@@ -66,13 +48,63 @@ same-length-5 c = search needs
 same-length-6 : tie.Need-same-length-6
 same-length-6 c = search needs
 
+returns : tie.Need-returns
+returns c =
+    let x = explored (c .before) in
+    let b = start (x .before) in
+    let q = b .pre .0 .possible in
+    let e = x .explore in
+    missing _ (b .args .board .now) _ _ (q .asked) (e .last .1 .1 .1 .1 .1 .1 .1 .1 .1 .1 .1 .1 .1 .1 .0) (e .result) (e .ensures .1 .1 .0 _ (q .ends-right)) _ (c .if1 .taken)
+
+trace-back-requires : tie.Need-trace-back-requires
+trace-back-requires c κs =
+    let x = explored (c .before .before .before .before) in
+    let b = start (x .before) in
+    let p = b .pre .0 in
+    let q = p .possible in
+    let r = ranges _ (b .args .board .now) _ _ (q .asked) in
+    let e = x .explore in (
+      (q .asked .ready, (p .arrays .states, p .states)),
+      (
+        (p .arrays .motions, (p .motions, p .arrays .leads)),
+        (
+          (r .goal-below, (omega (arith, e .ensures .0 .0, b .pre .1 .1 .0 .reached), omega (arith, e .ensures .1 .0, b .pre .1 .1 .0 .lists))),
+          (
+            _,
+            found _ (b .args .board .now) _ _ (q .asked) (e .last .1 .1 .1 .1 .1 .1 .1 .1 .1 .1 .1 .1 .1 .1 .0) (e .result) (e .ensures .1 .1 .0 _ (q .ends-right)) (omega (arith, c .before .before .before .if1 .left)) (e .ensures .1 .1 .1),
+          ),
+        ),
+      ),
+    )
+
+same-length-7 : tie.Need-same-length-7
+same-length-7 c = search needs
+
+same-length-8 : tie.Need-same-length-8
+same-length-8 c = search needs
+
+same-length-9 : tie.Need-same-length-9
+same-length-9 c = search needs
+
+same-length-10 : tie.Need-same-length-10
+same-length-10 c = search needs
+
+same-length-11 : tie.Need-same-length-11
+same-length-11 c = search needs
+
+same-length-12 : tie.Need-same-length-12
+same-length-12 c = search needs
+
 returns-2 : tie.Need-returns-2
 returns-2 c =
-    let start = c .before .before .before .before .before .before .before .before .before .before .before .before .before .before .before .before .before .before .before .before .before .before .before .before .before in
-    let p = start .pre .0 in
-    let e = c .before .before .before .before .before .before .before .before .before .before .before .explore in
-    planned _ (start .args .board .now) _ _ (p .asked) (c .before .before .before .before .before .before .before .before .before .before .before .explore .last .1 .1 .1 .1 .1 .1 .1 .1 .1 .1 .1 .1 .0) (e .result) (e .ensures .1 .0 _ (p .ends-right)) (omega (arith, c .before .before .before .if1 .left)) (e .ensures .1 .1)
-    _ (c .trace-back .result) (c .trace-back .ensures)
+    let t = c .before .before in
+    let else1 = t .before .before .before .before in
+    let x = explored (else1 .before) in
+    let b = start (x .before) in
+    let q = b .pre .0 .possible in
+    let e = x .explore in
+    planned _ (b .args .board .now) _ _ (q .asked) (e .last .1 .1 .1 .1 .1 .1 .1 .1 .1 .1 .1 .1 .1 .1 .0) (e .result) (e .ensures .1 .1 .0 _ (q .ends-right)) (omega (arith, else1 .if1 .left)) (e .ensures .1 .1 .1)
+    _ (t .trace-back .result) (t .trace-back .ensures)
 
 pub search-in-spec : {M : Type 1} → statement M
 search-in-spec =
@@ -85,9 +117,15 @@ search-in-spec =
     same-length
     same-length-2
     same-length-3
-    returns
-    trace-back-requires
     same-length-4
     same-length-5
     same-length-6
+    returns
+    trace-back-requires
+    same-length-7
+    same-length-8
+    same-length-9
+    same-length-10
+    same-length-11
+    same-length-12
     returns-2)

@@ -2,21 +2,39 @@
 -- Assumes nothing.
 use native.Mathlib.Nat.{mul-le-mul-right}
 use native.Mathlib.Omega.{arith}
-use mathlib.Core.Path.{_≡_, sym, _∙_, subst}
+use mathlib.Core.Path.{_≡_, _∙_}
 use borrow.Author.Needs.{needs}
 use lib.ListN.{length}
-use Prim.Native.Nat.{ℕ}
 use Rattle.search_reach.specs.Explored.{Space}
-use Rattle.search_reach.proofs.BlockLaws.{facts, room-made, tables-made, right-made}
+use Rattle.search_reach.proofs.BlockLaws.{Facts, facts, room-made, space-kept, tables-made, right-made}
 use Rattle.search_reach.proofs.explore_block.Statement.{statement}
 use Rattle.search_reach.proofs.explore_block.Tie as tie
 
--- the tables keep their length
-sized : (c : tie.After-fill-runs) → length (c .fill-runs .last .0) ≡ length (c .before .before .before .before .before .before .before .before .before .before .before .before .before .before .before .before .before .before .args .tab .now)
-sized c = c .fill-runs .ensures .0 ∙ c .before .before .before .before .free-block .ensures .sized ∙ c .before .before .before .before .before .before .before .before .shift-rows .ensures .sized
+-- where the function began, and where the tables were after each part
+abbrev start : tie.After-struct-known → tie.Start
+start c = c .before .before .before .before .before .before .before .before .before .before .before .before
 
-space : (c : tie.After-fill-runs) → Space (c .before .before .before .before .before .before .before .before .before .before .before .before .before .before .before .before .before .before .args .sizes) (c .before .before .before .before .before .before .before .before .before .before .before .before .before .before .before .before .before .before .args .motions .now) (c .before .before .before .before .before .before .before .before .before .before .before .before .before .before .before .before .before .before .args .tables) (length (c .fill-runs .last .0)) (length (c .before .before .before .before .before .before .before .before .before .before .before .before .before .before .before .before .before .before .args .allowed .now)) (length (c .before .before .before .before .before .before .before .before .before .before .before .before .before .before .before .before .before .before .args .reached .now))
-space c = subst (λ (x : ℕ). Space (c .before .before .before .before .before .before .before .before .before .before .before .before .before .before .before .before .before .before .args .sizes) (c .before .before .before .before .before .before .before .before .before .before .before .before .before .before .before .before .before .before .args .motions .now) (c .before .before .before .before .before .before .before .before .before .before .before .before .before .before .before .before .before .before .args .tables) x (length (c .before .before .before .before .before .before .before .before .before .before .before .before .before .before .before .before .before .before .args .allowed .now)) (length (c .before .before .before .before .before .before .before .before .before .before .before .before .before .before .before .before .before .before .args .reached .now))) (sym (sized c)) (c .before .before .before .before .before .before .before .before .before .before .before .before .before .before .before .before .before .before .pre .1)
+abbrev shifted : tie.After-free-block-arg → tie.After-shift-rows
+shifted c = c .before .before .before
+
+abbrev freed : tie.After-fill-runs-arg → tie.After-free-block
+freed c = c .before .before .before
+
+abbrev filled : tie.After-settle-arg5 → tie.After-fill-runs
+filled c = c .before .before .before .before .before .before .before
+
+abbrev began : tie.After-fill-runs → tie.Start
+began c = start (shifted (freed (c .before) .before) .before)
+
+facts-there : (s : tie.Start) → Facts (s .args .file .now) (length (s .args .board .now)) (s .args .sizes)
+facts-there s = facts (s .args .file .now) (length (s .args .board .now)) (s .args .sizes) (s .pre .0 .0)
+
+-- the tables keep their length
+sized : (c : tie.After-fill-runs) → length (c .fill-runs .last .0) ≡ length (began c .args .tab .now)
+sized c = c .fill-runs .ensures .0 ∙ freed (c .before) .free-block .ensures .sized ∙ shifted (freed (c .before) .before) .shift-rows .ensures .sized
+
+space : (c : tie.After-fill-runs) → let a = began c .args in Space (a .sizes) (a .motions .now) (a .tables) (length (c .fill-runs .last .0))
+space c = space-kept _ _ _ _ _ (began c .pre .1 .0) (sized c)
 
 mul-shift-rows : tie.Need-mul-shift-rows
 mul-shift-rows c = search needs
@@ -26,27 +44,27 @@ shift-rows-requires c κs = search needs
 
 free-block-requires : tie.Need-free-block-requires
 free-block-requires c κs =
-    let start = c .before .before .before .before .before .before .before .before .before .before .before .before .before in
-    let q = facts (start .args .file .now) (length (start .args .board .now)) (start .args .sizes) (start .pre .0 .0) in
-    let s = start .pre .1 in
-    ((q .few, (q .short, q .board)), (omega (arith, mul-le-mul-right (start .args .sizes .cells) (s .some), s .tab, c .before .before .before .shift-rows .ensures .sized), (start .pre .0 .1 .1, q .near)))
+    let b = start (shifted c .before) in
+    let q = facts-there b in
+    let s = b .pre .1 .0 in
+    ((q .few, (q .short, q .board)), (omega (arith, mul-le-mul-right (b .args .sizes .cells) (s .some), s .tab, shifted c .shift-rows .ensures .sized), (b .pre .0 .1 .1, q .near)))
 
 fill-runs-requires : tie.Need-fill-runs-requires
 fill-runs-requires c κs =
-    let s = c .before .before .before .before .before .before .before .before .before .before .before .before .before .before .before .before .before .pre .1 in
-    let same = c .before .before .before .free-block .ensures .sized ∙ c .before .before .before .before .before .before .before .shift-rows .ensures .sized in
+    let shift = shifted (freed c .before) in
+    let s = start (shift .before) .pre .1 .0 in
+    let same = freed c .free-block .ensures .sized ∙ shift .shift-rows .ensures .sized in
     ((s .some, (s .few, omega (arith, s .tab, same))), omega (arith, s .small, same))
 
 settle-requires : tie.Need-settle-requires
 settle-requires c κs =
-    let start = c .before .before .before .before .before .before .before .before .before .before .before .before .before .before .before .before .before .before .before .before .before .before .before in
-    let i = start .pre .0 .1 .0 in
-    let q = facts (start .args .file .now) (length (start .args .board .now)) (start .args .sizes) (start .pre .0 .0) in
-    let s = start .pre .1 in (
+    let b = began (filled c) in
+    let i = b .pre .0 .1 .0 in
+    let s = b .pre .1 .1 in (
       (i .states, (i .cells, (i .motions, i .leads))),
       (
-        (i .sweeps, (room-made (start .args .sizes) (start .args .motions .now) _ (start .args .tables) _ _ (q .few) (space (c .before .before .before .before .before)), start .pre .0 .1 .1)),
-        (s .allowed, s .reached),
+        (i .sweeps, (room-made (b .args .sizes) (b .args .motions .now) _ (b .args .tables) (facts-there b .few) (space (filled c)), b .pre .0 .1 .1)),
+        ((s .allowed, (s .known, s .reached)), (s .lists, s .grown)),
       ),
     )
 
@@ -59,23 +77,35 @@ same-length-2 c = search needs
 same-length-3 : tie.Need-same-length-3
 same-length-3 c = search needs
 
+same-length-4 : tie.Need-same-length-4
+same-length-4 c = search needs
+
+same-length-5 : tie.Need-same-length-5
+same-length-5 c = search needs
+
 returns : tie.Need-returns
 returns c =
-    let start = c .before .before .before .before .before .before .before .before .before .before .before .before .before .before .before .before .before .before .before .before .before .before .before .before .before .before .before .before in
-    let a = start .args in
-    let runs = c .before .before .before .before .before .before .before .before .before .before in
-    let done = c .before .before .before .before .settle .ensures in (
-      (sized runs, done .1 .0),
+    let settled = c .before .before .before .before .before .before .before .before in
+    let runs = filled (settled .before) in
+    let frees = freed (runs .before) in
+    let shift = shifted (frees .before) in
+    let b = start (shift .before) in
+    let a = b .args in
+    let done = settled .settle .ensures in (
+      (sized runs, done .1 .0 .0),
       (
-        done .0,
-        λ first late lists ahead.
-            let right = tables-made (a .file .now) (a .board .now) (a .sizes) (a .tables) (a .block) first (start .pre .0 .0)
-            (a .tab .now) (c .before .before .before .before .before .before .before .before .before .before .before .before .before .before .before .before .before .before .shift-rows .last .0) (c .before .before .before .before .before .before .before .before .before .before .before .before .before .before .free-block .last .0) (runs .fill-runs .last .0) late
-            (c .before .before .before .before .before .before .before .before .before .before .before .before .before .before .before .before .before .before .shift-rows .ensures) (c .before .before .before .before .before .before .before .before .before .before .before .before .before .before .free-block .ensures) (runs .fill-runs .ensures .1) ahead in (
-              right,
-              done .1 .1 _ (right-made (a .file .now) (a .board .now) (a .sizes) (a .tables) (a .block) first (start .pre .0 .0)
-                  (a .states .now) (a .motions .now) (runs .fill-runs .last .0) _ _ _ (start .pre .0 .1 .0) (start .pre .1) right) lists,
-            ),
+        (done .1 .0 .1, done .1 .1 .0),
+        (
+          done .0,
+          λ first late lists ahead.
+              let right = tables-made (a .file .now) (a .board .now) (a .sizes) (a .tables) (a .block) first (b .pre .0 .0)
+              (a .tab .now) (shift .shift-rows .last .0) (frees .free-block .last .0) (runs .fill-runs .last .0) late
+              (shift .shift-rows .ensures) (frees .free-block .ensures) (runs .fill-runs .ensures .1) ahead in (
+                right,
+                done .1 .1 .1 _ (right-made (a .file .now) (a .board .now) (a .sizes) (a .tables) (a .block) first (b .pre .0 .0)
+                    (a .states .now) (a .motions .now) (runs .fill-runs .last .0) _ (b .pre .0 .1 .0) (b .pre .1 .0) right) lists,
+              ),
+        ),
       ),
     )
 
@@ -91,4 +121,6 @@ explore-block-spec =
     same-length
     same-length-2
     same-length-3
+    same-length-4
+    same-length-5
     returns)

@@ -18,20 +18,20 @@ to-of-requires c κs = search needs
 span-of-requires : tie.Need-span-of-requires
 span-of-requires c κs = search needs
 
-element-copy-out-if1 : tie.Need-element-copy-out-if1
-element-copy-out-if1 c = search needs
+slice-read-if1 : tie.Need-slice-read-if1
+slice-read-if1 c = search needs
 
 cell-of-requires : tie.Need-cell-of-requires
 cell-of-requires c κs =
     let after-to = c .before .before .before in
-    let start = after-to .before .before .before .before .before .before .before .before in
+    let start = after-to .before .before .before .before .before .before .before .before .before in
     (start .pre .0 .0, omega (arith, after-to .to-of .ensures, start .pre .0 .1 .1 .1 .0 .to (start .args .m) (start .pre .0 .1 .1 .1 .1)))
 
 -- the cell of the state to which the motion leads
-cell-known : (c : tie.After-cell-of) → c .cell-of .result < c .before .before .before .before .before .before .before .before .before .before .before .before .args .cells
+cell-known : (c : tie.After-cell-of) → c .cell-of .result < c .before .before .before .before .before .before .before .before .before .before .before .before .before .args .cells
 cell-known c =
     let after-to = c .before .before .before .before in
-    let start = after-to .before .before .before .before .before .before .before .before in
+    let start = after-to .before .before .before .before .before .before .before .before .before in
     let is-to = after-to .to-of .ensures in
     omega (arith, c .cell-of .ensures, start .pre .0 .1 .0 (after-to .to-of .result) (omega (arith, is-to, start .pre .0 .1 .1 .1 .0 .to (start .args .m) (start .pre .0 .1 .1 .1 .1))))
 
@@ -41,7 +41,7 @@ news-requires c κs =
     let after-span = after-cell .before .before .before in
     let after-to = after-span .before in
     let after-from = after-to .before in
-    let start = after-from .before .before .before .before .before .before .before in
+    let start = after-from .before .before .before .before .before .before .before .before in
     let m = start .args .m in
     let lt = start .pre .0 .1 .1 .1 .1 in
     let from = start .pre .0 .1 .1 .1 .0 .from m lt in
@@ -64,11 +64,11 @@ returns c =
     let after-span = after-cell .before .before .before in
     let after-to = after-span .before in
     let after-from = after-to .before in
-    let start = after-from .before .before .before .before .before .before .before in
+    let start = after-from .before .before .before .before .before .before .before .before in
     let a = start .args in (
       row-set-none _ _ _,
       (
-        refl,
+        (refl, refl),
         λ g right ready. (
           ready,
           (
@@ -83,18 +83,18 @@ returns c =
 
 prepare-requires : tie.Need-prepare-requires
 prepare-requires c κs =
-    let start = c .before .before .before .before .before .before .before .before .before .before .before .before .before .before .before .before .before in
+    let start = c .before .before .before .before .before .before .before .before .before .before .before .before .before .before .before .before .before .before in
     let p = start .pre in
     ((p .0 .1 .1 .0, (p .1 .0 .0, p .0 .1 .1 .1 .1)), (p .1 .0 .1 .0, omega arith))
 
 joined : (c : tie.Joined1)
-    → let a = c .before .before .before .before .before .before .before .before .before .before .before .args in
+    → let a = c .before .before .before .before .before .before .before .before .before .before .before .before .args in
     Prepared (a .cells) (a .n) (a .k) (a .block) (a .m) (a .states .now) (a .motions .now) (a .sweeps .now) (a .tab .now) (a .known .now) (a .allowed .now) (c .if1 .known) (c .if1 .allowed)
 joined c =
-    let start = c .before .before .before .before .before .before .before .before .before .before .before in
+    let start = c .before .before .before .before .before .before .before .before .before .before .before .before in
     let a = start .args in
     ⊎-elim
-    (λ w. rw (w .10, w .11) (record { sized = w .7 .ensures .0; rows = λ g right ready. w .7 .ensures .1 g (a .n) (a .block) (a .states .now) right ready }))
+    (λ w. rw (w .12, w .13) (record { sized = w .7 .ensures .0; rows = λ g right ready. w .7 .ensures .1 g (a .n) (a .block) (a .states .now) right ready }))
     (λ w. prepared-known (a .cells) (a .n) (a .k) (a .block) (a .m) (a .states .now) (a .motions .now) (a .sweeps .now) (a .tab .now) (a .known .now) (a .allowed .now) (c .if1 .known) (c .if1 .allowed) (start .pre .0 .1 .1 .1 .1) (w .0 .left) (w .1) (w .2))
     (c .if1 .came)
 
@@ -103,7 +103,7 @@ push-requires c κs =
     let after-span = c .before .before .before .before in
     let after-to = after-span .before in
     let after-from = after-to .before in
-    let start = after-from .before .before .before .before .before .before .before in
+    let start = after-from .before .before .before .before .before .before .before .before in
     let m = start .args .m in
     let lt = start .pre .0 .1 .1 .1 .1 in
     let leads = start .pre .0 .1 .1 .1 .0 in
@@ -116,15 +116,18 @@ push-requires c κs =
       (omega (arith, from, is-from), omega (arith, to, is-to)),
       (
         (start .pre .1 .0 .1 .1, (omega (arith, span, is-span), omega (arith, span, is-span))),
-        omega (arith, joined (c .before .before) .sized),
+        omega (arith, joined (c .before .before) .sized .0),
       ),
     )
 
 same-length-2 : tie.Need-same-length-2
-same-length-2 c = joined (c .before .before .before .before .before) .sized
+same-length-2 c = joined (c .before .before .before .before .before) .sized .0
 
 same-length-3 : tie.Need-same-length-3
-same-length-3 c = search needs
+same-length-3 c = joined (c .before .before .before .before .before) .sized .1
+
+same-length-4 : tie.Need-same-length-4
+same-length-4 c = search needs
 
 returns-2 : tie.Need-returns-2
 returns-2 c =
@@ -132,7 +135,7 @@ returns-2 c =
     let after-span = join .before .before in
     let after-to = after-span .before in
     let after-from = after-to .before in
-    let start = after-from .before .before .before .before .before .before .before in
+    let start = after-from .before .before .before .before .before .before .before .before in
     let a = start .args in
     let mv = a .motions .now in
     let m = a .m in
@@ -173,7 +176,7 @@ move-one-spec =
     from-of-requires
     to-of-requires
     span-of-requires
-    element-copy-out-if1
+    slice-read-if1
     cell-of-requires
     news-requires
     same-length
@@ -182,4 +185,5 @@ move-one-spec =
     push-requires
     same-length-2
     same-length-3
+    same-length-4
     returns-2)

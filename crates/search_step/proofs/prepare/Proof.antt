@@ -1,6 +1,7 @@
 -- `search_step::prepare` meets its contract: the row of motion m is worked out, and the others stay.
 -- Assumes nothing.
 use native.Mathlib.Omega.{arith}
+use lib.ListN.{length-set}
 use borrow.Author.Needs.{needs}
 use Rattle.search_step.proofs.StepLaws.{ready-more}
 use Rattle.search_step.proofs.prepare.Statement.{statement}
@@ -17,7 +18,7 @@ span-of-requires c κs = search needs
 
 arrivals-of-requires : tie.Need-arrivals-of-requires
 arrivals-of-requires c κs =
-    let start = c .before .before .before .before .before .before .before .before in
+    let start = c .before .before .before .before .before .before .before .before .before in
     let m = start .args .m in
     let lt = start .pre .0 .1 .1 in
     let is-span = c .before .span-of .ensures in
@@ -27,25 +28,28 @@ arrivals-of-requires c κs =
     let room = start .pre .1 .0 in
     ((omega arith, (rw (is-span, is-place, is-count) sweeps, omega (arith, is-span, start .pre .0 .0 .span m lt))), (room .few, rw is-span (room .rows m lt)))
 
-element-write-known : tie.Need-element-write-known
-element-write-known c = search needs
+slice-write-known : tie.Need-slice-write-known
+slice-write-known c = search needs
 
 same-length : tie.Need-same-length
 same-length c = search needs
+
+same-length-2 : tie.Need-same-length-2
+same-length-2 c = search needs
 
 returns : tie.Need-returns
 returns c =
     let done = c .before .before .arrivals-of .ensures in
     let after-span = c .before .before .before .before in
     let after-place = after-span .before .before in
-    let start = after-place .before .before .before .before .before in
+    let start = after-place .before .before .before .before .before .before in
     let a = start .args in
     let m = a .m in
     let lt = start .pre .0 .1 .1 in
     let is-span = after-span .span-of .ensures in
     let is-count = after-span .before .count-of .ensures in
     let is-place = after-place .place-of .ensures in (
-      done .0,
+      (done .0, length-set (a .known .now) m 1),
       λ g n block st right ready.
           let here = rw (is-span, is-place, is-count) at (done .1 .1 g (right .tables) block (rw is-span (right .enough m lt)) (right .right)) in
           (ready-more g (a .k) block m (a .motions .now) (a .sweeps .now) (a .known .now) (a .allowed .now) (c .before .before .arrivals-of .last .0) (done .1 .0) here ready, here),
@@ -59,6 +63,7 @@ prepare-spec =
     count-of-requires
     span-of-requires
     arrivals-of-requires
-    element-write-known
+    slice-write-known
     same-length
+    same-length-2
     returns)

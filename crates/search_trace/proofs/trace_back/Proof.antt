@@ -13,16 +13,19 @@ use Rattle.search_trace.proofs.trace_back.Statement.{statement}
 use Rattle.search_trace.proofs.trace_back.Tie as tie
 
 abbrev Inv-loop : tie.InvT-loop
-Inv-loop file sizes states motions board reached tick goal arrival path₀ lists s₀ t₀ count₀ path s t count =
+Inv-loop file sizes states motions lists board reached tick goal arrival path₀ s₀ t₀ count₀ path s t count =
     Going file board reached tick goal arrival s t (stepsIn path count)
 
 abbrev μ-loop : tie.MeasureT-loop
-μ-loop file sizes states motions board reached tick goal arrival path₀ lists s₀ t₀ count₀ path s t count =
+μ-loop file sizes states motions lists board reached tick goal arrival path₀ s₀ t₀ count₀ path s t count =
     t - tick
 
 -- the places that the answers look back to
+abbrev listed : tie.At-loop Inv-loop μ-loop → tie.After-fill-lists Inv-loop μ-loop
+listed l = l .before .before .before
+
 abbrev start : tie.At-loop Inv-loop μ-loop → tie.Start Inv-loop μ-loop
-start l = l .before .before .before .before .before .before .before
+start l = listed l .before .before .before .before .before .before .before .before
 
 abbrev head : tie.After-word-at Inv-loop μ-loop → tie.At-loop Inv-loop μ-loop
 head w = w .before .before .before
@@ -39,19 +42,21 @@ motion c =
     let l = head (c .before) in
     let b = start l in
     let x = b .pre .1 .1 .1 in
-    going-motion _ _ _ _ _ _ (well b) _ (b .pre .1 .0 .1) _ _ _ _ (c .before .before .before .loop-test .taken) (l .loop .inv) (c .before .word-at .ensures) (c .if1 .left) (x .0) (x .1)
+    going-motion _ _ _ _ _ _ (well b) _ (b .pre .1 .0 .1 .0) _ _ _ _ (c .before .before .before .loop-test .taken) (l .loop .inv) (c .before .word-at .ensures) (c .if1 .left) (x .0) (x .1)
 
 -- and its number, as the arrays count
 known-motion : (c : tie.Else1 Inv-loop μ-loop) → c .before .word-at .result - 3 < start (head (c .before)) .args .sizes .motions
 known-motion c = omega (arith, motion c .known, known (start (head (c .before)) .pre .0 .0) .motions)
 
-lists-of-requires : tie.Need-lists-of-requires Inv-loop μ-loop
-lists-of-requires c κs = (c .before .before .before .before .before .pre .1 .0 .0, omega arith)
+fill-lists-requires : tie.Need-fill-lists-requires Inv-loop μ-loop
+fill-lists-requires c κs =
+    let b = c .before .before .before .before .before .before .before in
+    ((b .pre .1 .0 .0, (b .pre .1 .0 .1 .1, omega arith)), b .pre .1 .1 .0 .1 .1)
 
 loop-holds : tie.Need-loop-holds Inv-loop μ-loop
 unfolding stepsIn
 loop-holds c =
-    let b = c .before .before .before .before .before .before in
+    let b = c .before .before .before .before .before .before .before .before .before .before in
     going-first _ _ _ _ _ _ (well b) (b .pre .1 .1 .1 .0) (b .pre .1 .1 .1 .1) (omega (arith, known (b .pre .0 .0) .states))
 
 word-at-requires : tie.Need-word-at-requires Inv-loop μ-loop
@@ -60,7 +65,13 @@ word-at-requires c κs =
     let b = start l in
     let g = l .loop .inv in
     let k = known (b .pre .0 .0) in
-    (b .pre .0, ((b .pre .1 .0 .0, (b .pre .1 .0 .1, l .before .lists-of .ensures)), (omega (arith, g .state, k .states), (g .started, (omega (arith, g .in-time, k .horizon), b .pre .1 .1 .0 .1)))))
+    let lists = listed l .fill-lists .ensures in (
+      b .pre .0,
+      (
+        (b .pre .1 .0 .0, (b .pre .1 .0 .1 .0, lists .0)),
+        (omega (arith, lists .1, b .pre .1 .1 .0 .1 .1), (omega (arith, g .state, k .states), (g .started, (omega (arith, g .in-time, k .horizon), b .pre .1 .1 .0 .1 .0)))),
+      ),
+    )
 
 push-wait-requires : tie.Need-push-wait-requires Inv-loop μ-loop
 push-wait-requires c κs =
@@ -113,8 +124,11 @@ loop-again-2 c =
     let e = c .before .before .before .before in
     let w = e .before in
     let b = start (head w) in
-    going-move _ _ _ _ _ _ (well b) _ (b .pre .1 .0 .1) _ _ _ _ _ _ _ (w .before .before .loop-test .taken) (head w .loop .inv) (w .word-at .ensures) (e .if1 .left) (motion e)
+    going-move _ _ _ _ _ _ (well b) _ (b .pre .1 .0 .1 .0) _ _ _ _ _ _ _ (w .before .before .loop-test .taken) (head w .loop .inv) (w .word-at .ensures) (e .if1 .left) (motion e)
     (c .before .from-of .ensures) (c .span-of .ensures) (c .before .before .push-move .ensures)
+
+same-length : tie.Need-same-length Inv-loop μ-loop
+same-length c = listed (c .before) .fill-lists .ensures .1
 
 returns : tie.Need-returns Inv-loop μ-loop
 returns c = going-done _ _ _ _ _ _ (well (start (c .before))) _ _ _ (c .loop-test .left) (c .before .loop .inv)
@@ -125,7 +139,7 @@ trace-back-spec =
     (tie.spec
     Inv-loop
     μ-loop
-    lists-of-requires
+    fill-lists-requires
     loop-holds
     word-at-requires
     push-wait-requires
@@ -139,4 +153,5 @@ trace-back-spec =
     sub-t-2
     loop-less-2
     loop-again-2
+    same-length
     returns)

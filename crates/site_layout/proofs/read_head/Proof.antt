@@ -21,29 +21,29 @@ number-at-requires c κs =
     let p = c .before .before .pre in
     omega (arith, head-read f (head-here f (p .0) (p .1)) _ (c .header-at .ensures .0) .inside)
 
-add-byte-at : tie.Need-add-byte-at
-add-byte-at c = search needs
-
-byte-at-requires : tie.Need-byte-at-requires
-byte-at-requires c κs =
-    let f = c .before .before .before .args .file .now in
-    let p = c .before .before .before .pre in
-    omega (arith, head-read f (head-here f (p .0) (p .1)) _ (c .before .header-at .ensures .0) .inside)
-
 add-number-at : tie.Need-add-number-at
 add-number-at c = search needs
 
 number-at-requires-2 : tie.Need-number-at-requires-2
 number-at-requires-2 c κs =
+    let f = c .before .before .before .args .file .now in
+    let p = c .before .before .before .pre in
+    omega (arith, head-read f (head-here f (p .0) (p .1)) _ (c .before .header-at .ensures .0) .inside)
+
+add-number-at-2 : tie.Need-add-number-at-2
+add-number-at-2 c = search needs
+
+number-at-requires-3 : tie.Need-number-at-requires-3
+number-at-requires-3 c κs =
     let f = c .before .before .before .before .args .file .now in
     let p = c .before .before .before .before .pre in
     omega (arith, head-read f (head-here f (p .0) (p .1)) _ (c .before .before .header-at .ensures .0) .inside)
 
-add-byte-at-2 : tie.Need-add-byte-at-2
-add-byte-at-2 c = search needs
+add-byte-at : tie.Need-add-byte-at
+add-byte-at c = search needs
 
-byte-at-requires-2 : tie.Need-byte-at-requires-2
-byte-at-requires-2 c κs =
+byte-at-requires : tie.Need-byte-at-requires
+byte-at-requires c κs =
     let f = c .before .before .before .before .before .args .file .now in
     let p = c .before .before .before .before .before .pre in
     omega (arith, head-read f (head-here f (p .0) (p .1)) _ (c .before .before .before .header-at .ensures .0) .inside)
@@ -55,9 +55,9 @@ returns c =
     let x = head-read f (head-here f (p .0) (p .1)) _ (c .before .before .before .before .header-at .ensures .0) in
     record {
       horizon = c .before .before .before .number-at .ensures .0 ∙ x .horizon;
-      cells = c .before .before .byte-at .ensures .0 ∙ x .cells;
-      states = c .before .number-at2 .ensures .0 ∙ x .count;
-      margin = c .byte-at2 .ensures .0 ∙ x .margin;
+      cells = c .before .before .number-at2 .ensures .0 ∙ x .cells;
+      states = c .before .number-at3 .ensures .0 ∙ x .count;
+      margin = c .byte-at .ensures .0 ∙ x .margin;
       start = x .next;
     }
 
@@ -67,10 +67,10 @@ read-head-spec =
     (tie.spec
     header-at-requires
     number-at-requires
-    add-byte-at
-    byte-at-requires
     add-number-at
     number-at-requires-2
-    add-byte-at-2
-    byte-at-requires-2
+    add-number-at-2
+    number-at-requires-3
+    add-byte-at
+    byte-at-requires
     returns)
