@@ -34,7 +34,7 @@ pub fn transcript(site: Option<&[u8]>, script: &[u8]) -> String {
         rest = &rest[3 + length..];
         let mut arrival = 0;
         let number = match (tag, length) {
-            (32, 6) => plain::close(site, &mut board, value[0], value[1] as u16, be16(&value[2..]), be16(&value[4..])).number,
+            (32, 7) => plain::close(site, &mut board, value[0], be16(&value[1..]), be16(&value[3..]), be16(&value[5..])).number,
             (33, 1) => plain::withdraw(site, &mut board, value[0]).number,
             (34, 9) => {
                 let mut out = vec![0; AREA];

@@ -2,7 +2,7 @@
 
 use crate::literal::{encode, Motion, Site, State, Sweep};
 
-fn motion(from: u16, to: u16, d: u8, sweeps: &[(u8, u8, u8)]) -> Motion {
+fn motion(from: u16, to: u16, d: u8, sweeps: &[(u16, u8, u8)]) -> Motion {
     Motion { from, to, d, sweeps: sweeps.iter().map(|&(cell, a, b)| Sweep { cell, a, b }).collect() }
 }
 

@@ -1,6 +1,7 @@
 //! Seeded generators: sites, damaged files, boards, lights and calls.
 
-use crate::literal::{encode, encode_fields, number, put, with_head, Light, Motion, Site, State, Step, Sweep, MAX_DWELL, MAX_MARGIN};
+use crate::literal::{encode, encode_fields, number, put, with_head, Light, Motion, Site, State, Step, Sweep};
+use crate::literal::{HEAD_LEN, MAX_CELLS, MAX_DWELL, MAX_H, MAX_MARGIN, MAX_MOTIONS, MAX_SITE, MAX_STATES, MAX_SWEEPS, MOTION_LEN, STATE_LEN, SWEEP_LEN};
 use crate::{literal_desk, plain};
 
 /// A small generator of numbers (splitmix64), so that a seed gives the same run everywhere.
@@ -54,7 +55,11 @@ pub enum Size {
     /// Few states and many ticks, so that a dwell can have more than 255.
     Long,
     Middle,
-    /// At or near every limit: H 1,000, 255 cells, 256 states, 2,000 motions, 65,536 bytes.
+    /// As `Row` or `Small`, but with its cells spread over a hall of 256 to 1,000 of them, so that the low bytes of cells agree.
+    Hall,
+    /// More than 256 states, and up to as many as a site can have, with few ticks.
+    Many,
+    /// At or near every limit: H 1,000, 1,000 cells, 1,280 states, 4,000 motions, 65,536 bytes.
     Large,
 }
 
@@ -70,7 +75,7 @@ pub fn motion_between(rng: &mut Rng, c: usize, states: &[State], from: usize, to
     let (cell_from, cell_to) = (states[from].cell, states[to].cell);
     let mut cells = vec![cell_from];
     let inner = rng.below(3).min(sweeps.saturating_sub(2));
-    cells.extend((0..inner).map(|_| rng.below(c) as u8));
+    cells.extend((0..inner).map(|_| rng.below(c) as u16));
     if cell_to != cell_from || inner > 0 || (sweeps > 1 && rng.percent(30)) {
         cells.push(cell_to);
     }
@@ -104,7 +109,7 @@ pub fn motion_between(rng: &mut Rng, c: usize, states: &[State], from: usize, to
             _ => {
                 let x = rng.range(0, d);
                 let y = d.min(x + rng.below(4));
-                all.push(Sweep { cell: rng.below(c) as u8, a: x as u8, b: y as u8 });
+                all.push(Sweep { cell: rng.below(c) as u16, a: x as u8, b: y as u8 });
             }
         }
     }
@@ -131,7 +136,7 @@ pub fn any_margin(rng: &mut Rng) -> usize {
 fn row_site(rng: &mut Rng, margin: usize, more: usize) -> Site {
     let c = rng.range(2, 9);
     let mut states = Vec::new();
-    for cell in 0..c as u8 {
+    for cell in 0..c as u16 {
         let speeds: &[u8] = rng.pick(&[&[0], &[0, 1], &[0, 1], &[0, 1], &[1], &[0, 1, 2], &[0, 0]]);
         states.extend(speeds.iter().map(|&speed| State { cell, speed }));
     }
@@ -162,47 +167,143 @@ fn row_site(rng: &mut Rng, margin: usize, more: usize) -> Site {
     Site { h: rng.range(8, 60) + more, c, margin, states, motions }
 }
 
+/// The number of cells of a large hall: often that of the new works, or at the limit, or just above what one byte can name.
+fn hall_cells(rng: &mut Rng) -> usize {
+    let any = rng.range(256, MAX_CELLS);
+    rng.pick(&[640, 640, 640, MAX_CELLS, 256, 257, 513, any, any, any])
+}
+
+/// The same site in a large hall. Its cells become cells whose low bytes agree, so that a lost high byte makes one cell of several, and cells next to
+/// each other at that; those at the ends of the hall and of the low byte are among them.
+pub fn spread(rng: &mut Rng, mut site: Site) -> Site {
+    let hall = hall_cells(rng);
+    let mut cells: Vec<u16> = Vec::new();
+    while cells.len() < site.c {
+        let any = rng.below(256);
+        let low = rng.pick(&[0, 255, (hall - 1) % 256, any, any]);
+        let alike: Vec<u16> = (low..hall).step_by(256).map(|cell| cell as u16).filter(|cell| !cells.contains(cell)).collect();
+        cells.extend(alike);
+    }
+    for state in &mut site.states {
+        state.cell = cells[state.cell as usize];
+    }
+    for sweep in site.motions.iter_mut().flat_map(|motion| &mut motion.sweeps) {
+        sweep.cell = cells[sweep.cell as usize];
+    }
+    site.c = hall;
+    site
+}
+
+fn any_states(rng: &mut Rng, c: usize, s: usize) -> Vec<State> {
+    (0..s).map(|_| State { cell: rng.below(c) as u16, speed: if rng.percent(60) { 0 } else { rng.pick(&[1, 1, 2, 255]) } }).collect()
+}
+
+fn any_span(rng: &mut Rng) -> usize {
+    match rng.below(20) {
+        0 => rng.pick(&[63, 64, 65, 127, 128, 254, 255]),
+        1..=3 => rng.range(1, 20),
+        _ => rng.range(1, 4),
+    }
+}
+
+/// A site with as many motions as wanted, or as its file has room for. The less room is left, the more of them stay within a cell, where one sweep is enough.
+fn crowded(rng: &mut Rng, h: usize, c: usize, margin: usize, s: usize, wanted: usize) -> Site {
+    const LEAST: usize = 3 + MOTION_LEN + SWEEP_LEN;
+    let states = any_states(rng, c, s);
+    let mut by_cell = vec![vec![]; c];
+    states.iter().enumerate().for_each(|(state, at)| by_cell[at.cell as usize].push(state));
+    by_cell.retain(|here| here.len() > 1);
+    let mut room = MAX_SITE - (3 + HEAD_LEN) - s * (3 + STATE_LEN);
+    let mut motions = Vec::new();
+    for left in (1..=wanted).rev() {
+        let spare = room.saturating_sub(left * LEAST) / SWEEP_LEN;
+        let sweeps = 1 + rng.below(1 + (2 * spare / left).min(5));
+        let d = any_span(rng);
+        let made = if sweeps == 1 && !by_cell.is_empty() {
+            let i = rng.below(by_cell.len());
+            let here = &by_cell[i];
+            let (first, away) = (rng.below(here.len()), rng.range(1, here.len() - 1));
+            motion_between(rng, c, &states, here[first], here[(first + away) % here.len()], d, 1)
+        } else {
+            motion(rng, c, &states, d, sweeps)
+        };
+        let len = 3 + MOTION_LEN + SWEEP_LEN * made.sweeps.len();
+        if len <= room {
+            room -= len;
+            motions.push(made);
+        }
+    }
+    Site { h, c, margin, states, motions }
+}
+
+fn many_site(rng: &mut Rng, margin: usize) -> Site {
+    let any = rng.range(257, MAX_STATES);
+    let (h, c, s) = (rng.range(4, 16), rng.range(1, 9), rng.pick(&[257, MAX_STATES, any]));
+    let motions = rng.pick(&[300, 2_001, MAX_MOTIONS]);
+    let many = crowded(rng, h, c, margin, s, motions);
+    if rng.percent(50) {
+        spread(rng, many)
+    } else {
+        many
+    }
+}
+
+fn large_site(rng: &mut Rng, margin: usize) -> Site {
+    let (h, c) = (rng.pick(&[MAX_H, MAX_H, 999, 960]), rng.pick(&[MAX_CELLS, 999, 640, 40]));
+    let (s, motions) = (rng.pick(&[MAX_STATES, MAX_STATES - 1, 65]), rng.pick(&[MAX_MOTIONS, MAX_MOTIONS - 1, 1_200]));
+    let mut large = crowded(rng, h, c, margin, s, motions);
+    if rng.percent(60) {
+        fill_up(rng, &mut large);
+    }
+    large
+}
+
+/// As many ticks, cells, states and motions as a site can have, and as many bytes as such a file can.
+pub fn largest(rng: &mut Rng, margin: usize) -> Site {
+    let mut site = crowded(rng, MAX_H, MAX_CELLS, margin, MAX_STATES, MAX_MOTIONS);
+    fill_up(rng, &mut site);
+    assert_eq!(site.motions.len(), MAX_MOTIONS);
+    site
+}
+
+/// Repeats sweeps until the file has 65,536 bytes or, for an even number of states, two less.
+fn fill_up(rng: &mut Rng, site: &mut Site) {
+    let mut len = encode(site).len();
+    while len + SWEEP_LEN <= MAX_SITE {
+        let i = rng.below(site.motions.len());
+        let sweeps = &mut site.motions[i].sweeps;
+        if sweeps.len() < MAX_SWEEPS {
+            sweeps.push(sweeps[0]);
+            len += SWEEP_LEN;
+        }
+    }
+}
+
 pub fn site(rng: &mut Rng, size: Size) -> Site {
     let margin = any_margin(rng);
     // With a wide margin tugs and closures get past each other only if they have more ticks.
     let more = rng.pick(&[0, 2, 4]) * margin;
     let (h, c, s, most_motions) = match size {
         Size::Row => return row_site(rng, margin, more),
+        Size::Hall => {
+            let small = rng.pick(&[Size::Row, Size::Row, Size::Small]);
+            let small = site(rng, small);
+            return spread(rng, small);
+        }
+        Size::Many => return many_site(rng, margin),
+        Size::Large => return large_site(rng, margin),
         Size::Tiny => (rng.range(1, 12) + more, rng.range(1, 4), rng.range(1, 4), rng.below(9)),
         Size::Small => (rng.range(5, 40) + more, rng.range(1, 9), rng.range(2, 10), rng.range(1, 30)),
         Size::Long => (rng.range(300, 500), rng.range(1, 4), rng.range(1, 5), rng.below(12)),
         Size::Middle => (rng.range(60, 200), rng.range(3, 40), rng.range(10, 90), rng.range(30, 240)),
-        Size::Large => (rng.pick(&[1_000, 1_000, 999, 960]), rng.pick(&[255, 254, 40]), rng.pick(&[256, 255, 65]), rng.pick(&[2_000, 1_999, 1_200])),
     };
-    let states: Vec<State> = (0..s).map(|_| State { cell: rng.below(c) as u8, speed: if rng.percent(60) { 0 } else { rng.pick(&[1, 1, 2, 255]) } }).collect();
+    let states = any_states(rng, c, s);
     let mut motions = Vec::new();
     while motions.len() < most_motions && s > 1 {
-        let d = match rng.below(20) {
-            0 => rng.pick(&[63, 64, 65, 127, 128, 254, 255]),
-            1..=3 => rng.range(1, 20),
-            _ => rng.range(1, 4),
-        };
-        let sweeps = if size == Size::Large { rng.range(1, 6) } else { rng.pick(&[1, 2, 2, 2, 3, 3, 4, 5, 8, 15, 16]) };
-        motions.push(motion(rng, c, &states, d.min(255), sweeps));
+        let (d, sweeps) = (any_span(rng), rng.pick(&[1, 2, 2, 2, 3, 3, 4, 5, 8, 15, 16]));
+        motions.push(motion(rng, c, &states, d, sweeps));
     }
-    let mut site = Site { h, c, margin, states, motions };
-    if size == Size::Large && rng.percent(60) {
-        fill_up(rng, &mut site);
-    }
-    site
-}
-
-/// Repeats sweeps until the file has 65,536 bytes or, for sites that cannot have just that many, one or two less.
-fn fill_up(rng: &mut Rng, site: &mut Site) {
-    let mut len = encode(site).len();
-    while len + 3 <= 65_536 {
-        let i = rng.below(site.motions.len());
-        let sweeps = &mut site.motions[i].sweeps;
-        if sweeps.len() < 16 {
-            sweeps.push(sweeps[0]);
-            len += 3;
-        }
-    }
+    Site { h, c, margin, states, motions }
 }
 
 fn join(fields: &[(u8, Vec<u8>)]) -> Vec<u8> {
@@ -226,7 +327,7 @@ pub fn damaged(rng: &mut Rng, site: &Site, faults: &[u8]) -> Vec<u8> {
     }
     if faults.contains(&5) {
         let i = 1 + rng.below(s);
-        fields[i].1[0] = rng.range(c, 255) as u8;
+        damage_cell(rng, c, &mut fields[i].1[..2]);
     }
     if faults.contains(&4) {
         damage_layout(rng, s, &mut fields);
@@ -259,7 +360,7 @@ pub fn damaged(rng: &mut Rng, site: &Site, faults: &[u8]) -> Vec<u8> {
         }
     }
     if faults.contains(&1) {
-        let wanted = 65_537 + if rng.percent(70) { 0 } else { rng.below(4_000) };
+        let wanted = MAX_SITE + 1 + if rng.percent(70) { 0 } else { rng.below(4_000) };
         if rng.percent(50) {
             let last = fields.last().cloned().unwrap_or_default();
             while bytes.len() < wanted {
@@ -271,25 +372,53 @@ pub fn damaged(rng: &mut Rng, site: &Site, faults: &[u8]) -> Vec<u8> {
     bytes
 }
 
+/// A number with the same low byte that is at least a limit, the least one.
+fn past_with_low_byte(n: usize, limit: usize) -> usize {
+    n + (limit - n).div_ceil(256) * 256
+}
+
+/// A cell that the hall does not have: just past it, by far, or right in its low byte only.
+fn damage_cell(rng: &mut Rng, c: usize, cell: &mut [u8]) {
+    let any = rng.range(c, 65_535);
+    let alike = past_with_low_byte(number(cell), c);
+    let alike_by_far = number(cell) + 0xff00 - number(&cell[..1]) * 256;
+    let wrong = rng.pick(&[c, c, c + 1, alike, alike, alike_by_far, 65_535, any]);
+    cell.copy_from_slice(&(wrong as u16).to_be_bytes());
+}
+
+/// A number above a limit, 0, or one that has a right low byte only.
+fn out_of_range(rng: &mut Rng, limit: usize) -> [u8; 2] {
+    (rng.pick(&[0, limit + 1, limit + 1, past_with_low_byte(1, limit + 1), 32_768 + limit, 65_535]) as u16).to_be_bytes()
+}
+
+/// The head as it was when a cell had one byte; and before there was a margin.
+fn old_head(head: &mut Vec<u8>, margin: bool) {
+    head.remove(2);
+    head.truncate(if margin { 6 } else { 5 });
+}
+
+/// The sweeps as they were when a cell had one byte.
+fn old_sweeps(motion: &mut Vec<u8>) {
+    let sweeps: Vec<u8> = motion[MOTION_LEN..].chunks(SWEEP_LEN).flat_map(|w| w[1..].to_vec()).collect();
+    motion.truncate(MOTION_LEN);
+    motion.extend(sweeps);
+}
+
 fn damage_head(rng: &mut Rng, fields: &mut Vec<(u8, Vec<u8>)>) {
     let head = &mut fields[0].1;
-    match rng.below(16) {
-        0 => head[..2].copy_from_slice(&[0, 0]),
-        1 => head[..2].copy_from_slice(&1_001u16.to_be_bytes()),
-        2 => head[..2].copy_from_slice(&[255, 255]),
-        3 => head[2] = 0,
-        4 => head[3..5].copy_from_slice(&[0, 0]),
-        5 => head[3..5].copy_from_slice(&257u16.to_be_bytes()),
-        6 => head[3] = 255,
-        // Without the margin, as it was before.
-        7 => head.truncate(5),
-        8 => head.truncate(4),
-        9 => head.push(0),
-        10 => fields[0].0 = rng.pick(&[0, 2, 3, 16, 255]),
-        11 => {
+    match rng.below(18) {
+        0..=2 => head[..2].copy_from_slice(&out_of_range(rng, MAX_H)),
+        3..=5 => head[2..4].copy_from_slice(&out_of_range(rng, MAX_CELLS)),
+        6..=8 => head[4..6].copy_from_slice(&out_of_range(rng, MAX_STATES)),
+        9 => old_head(head, true),
+        10 => old_head(head, false),
+        11 => head.truncate(rng.pick(&[0, 4, 5, 6])),
+        12 => head.push(0),
+        13 => fields[0].0 = rng.pick(&[0, 2, 3, 16, 255]),
+        14 => {
             fields.remove(0);
         }
-        12..=14 => head[5] = rng.pick(&[21, 21, 22, 32, 128, 255]),
+        15 | 16 => head[6] = rng.pick(&[21, 21, 22, 32, 128, 255]),
         _ => fields.clear(),
     }
 }
@@ -298,7 +427,7 @@ fn damage_layout(rng: &mut Rng, s: usize, fields: &mut Vec<(u8, Vec<u8>)>) {
     let state = 1 + rng.below(s);
     let motions = fields.len() - 1 - s;
     let motion = if motions > 0 { 1 + s + rng.below(motions) } else { state };
-    match rng.below(15) {
+    match rng.below(18) {
         0 => fields[state].0 = rng.pick(&[0, 1, 3, 17]),
         1 => fields[motion].0 = rng.pick(&[0, 1, 2, 4]),
         2 => fields[state].1.push(0),
@@ -316,15 +445,15 @@ fn damage_layout(rng: &mut Rng, s: usize, fields: &mut Vec<(u8, Vec<u8>)>) {
             let copy = fields[state].clone();
             fields.push(copy);
         }
-        7 => fields[motion].1.truncate(5),
+        7 => fields[motion].1.truncate(MOTION_LEN),
         8 => {
             // 17 sweeps.
             let value = &mut fields[motion].1;
-            value.resize(5, 0);
-            value.resize(5 + 3 * 17, 0);
+            value.truncate(MOTION_LEN);
+            value.resize(MOTION_LEN + SWEEP_LEN * (MAX_SWEEPS + 1), 0);
         }
         9 => {
-            let n = rng.range(1, 2);
+            let n = rng.range(1, SWEEP_LEN - 1);
             fields[motion].1.extend(vec![0; n]);
         }
         10 => {
@@ -334,12 +463,17 @@ fn damage_layout(rng: &mut Rng, s: usize, fields: &mut Vec<(u8, Vec<u8>)>) {
         11 => fields.push((rng.pick(&[0, 2, 4, 255]), vec![])),
         12 if motions > 0 => fields.swap(state, motion),
         13 if motions > 0 && rng.percent(30) => {
-            // More than 2,000 motions, each short enough for the file's limit.
+            // Too many motions, each short enough for the file's limit.
             let mut short = fields[motion].clone();
-            short.1.truncate(8);
+            short.1.truncate(MOTION_LEN + SWEEP_LEN);
             fields.truncate(1 + s);
-            fields.extend(vec![short; 2_001]);
+            fields.extend(vec![short; MAX_MOTIONS + 1]);
         }
+        // As it was when a cell had one byte.
+        14 => {
+            fields[state].1.remove(0);
+        }
+        15 | 16 if motions > 0 => old_sweeps(&mut fields[motion].1),
         _ => fields[motion].1.truncate(4),
     }
 }
@@ -347,8 +481,8 @@ fn damage_layout(rng: &mut Rng, s: usize, fields: &mut Vec<(u8, Vec<u8>)>) {
 /// Breaks one rule of a motion, or with a little luck none.
 fn damage_motion(rng: &mut Rng, site: &Site, value: &mut Vec<u8>) {
     let s = site.states.len();
-    let sweeps = (value.len() - 5) / 3;
-    let w = 5 + 3 * rng.below(sweeps);
+    let sweeps = (value.len() - MOTION_LEN) / SWEEP_LEN;
+    let w = MOTION_LEN + SWEEP_LEN * rng.below(sweeps);
     let d = value[4];
     match rng.below(13) {
         0 => value[..2].copy_from_slice(&(s as u16).to_be_bytes()),
@@ -356,29 +490,29 @@ fn damage_motion(rng: &mut Rng, site: &Site, value: &mut Vec<u8>) {
         2 => value[0] = rng.range(1, 255) as u8,
         3 => value.copy_within(0..2, 2),
         4 => value[4] = 0,
-        5 => value[w] = rng.range(site.c, 255) as u8,
+        5 => damage_cell(rng, site.c, &mut value[w..w + 2]),
         6 => {
-            value[w + 1] = value[w + 2].wrapping_add(1);
+            value[w + 2] = value[w + 3].wrapping_add(1);
         }
-        7 => value[w + 2] = d.saturating_add(1),
+        7 => value[w + 3] = d.saturating_add(1),
         8 => value[4] = d.wrapping_add(1),
         9 => value[..2].copy_from_slice(&(rng.below(s) as u16).to_be_bytes()),
         10 => value[2..4].copy_from_slice(&(rng.below(s) as u16).to_be_bytes()),
         11 => {
             // Without a sweep the chain may be broken.
             if sweeps > 1 {
-                value.drain(w..w + 3);
+                value.drain(w..w + SWEEP_LEN);
             }
         }
         _ => {
             // Every sweep covers no more than one offset, so nothing hands over but by adjoining.
-            let from = site.cell(number(&value[..2]).min(s - 1)) as u8;
-            let to = site.cell(number(&value[2..4]).min(s - 1)) as u8;
-            value.truncate(5);
-            value.extend([from, 0, 0]);
+            let [from, to] = [&value[..2], &value[2..4]].map(|state| site.states[number(state).min(s - 1)].cell);
+            value.truncate(MOTION_LEN);
+            value.extend(Sweep { cell: from, a: 0, b: 0 }.encode());
             for j in 1..=d.min(15) {
                 let cell = if j == d.min(15) || rng.percent(30) { to } else { from };
-                value.extend([cell, if j == 15 { d } else { j }, if j == 15 { d } else { j }]);
+                let at = if j == 15 { d } else { j };
+                value.extend(Sweep { cell, a: at, b: at }.encode());
             }
         }
     }
@@ -448,8 +582,26 @@ pub fn board(rng: &mut Rng, site: &Site) -> Vec<u8> {
 /// A number that should be below a limit. With a chance of `bad` in 100 it is at the limit, past it, or right in its low byte only.
 fn near(rng: &mut Rng, limit: usize, bad: usize) -> u16 {
     let good = rng.below(limit);
-    let n = if rng.percent(bad) { rng.pick(&[limit, limit + 1, good + 256, 65_535]) } else { rng.pick(&[good, good, good, good, good, 0, limit - 1]) };
+    let n = if rng.percent(bad) {
+        rng.pick(&[limit, limit + 1, past_with_low_byte(good, limit), 65_535])
+    } else {
+        rng.pick(&[good, good, good, good, good, 0, limit - 1])
+    };
     n.min(65_535) as u16
+}
+
+/// A cell. In a large hall it is mostly that of a state, or another one with the same low byte; with a chance of `bad` in 100 there is no such cell.
+fn any_cell(rng: &mut Rng, site: &Site, bad: usize) -> u16 {
+    if site.c < 256 || rng.percent(20 + bad) {
+        return near(rng, site.c, bad);
+    }
+    let cell = rng.pick(&site.states).cell;
+    let alike: Vec<u16> = (cell % 256..site.c as u16).step_by(256).collect();
+    if rng.percent(60) {
+        cell
+    } else {
+        rng.pick(&alike)
+    }
 }
 
 /// A length that should be at least some number: mostly just that, else longer, or with a chance of `bad` in 100 too short.
@@ -848,7 +1000,7 @@ impl Caller<'_> {
             let len = rng.below(long);
             (first as usize + len).min(self.site.h).max(first as usize) as u16
         };
-        Call::Close { holder: self.holder(rng, board, (200, 254), bad), cell: near(rng, self.site.c, bad / 3), first, last }
+        Call::Close { holder: self.holder(rng, board, (200, 254), bad), cell: any_cell(rng, self.site, bad / 3), first, last }
     }
 
     fn withdraw(&self, rng: &mut Rng, board: &[u8], bad: usize) -> Call {
@@ -857,7 +1009,7 @@ impl Caller<'_> {
     }
 
     fn interval(&self, rng: &mut Rng, bad: usize) -> Call {
-        Call::Interval { cell: near(rng, self.site.c, bad), out: length(rng, self.site.h + 2, bad) }
+        Call::Interval { cell: any_cell(rng, self.site, bad), out: length(rng, self.site.h + 2, bad) }
     }
 
     /// A call of a list: those of 'Lists of calls' of docs/FORMATS.md, and intervals, which change nothing.
@@ -900,8 +1052,13 @@ pub fn script(rng: &mut Rng, site: &Site) -> Vec<u8> {
             0..=24 => {
                 let first = near(rng, ticks, 4);
                 let last = (first as usize + rng.below(1 + ticks / 4)).min(site.h).max(first as usize) as u16;
-                let (f, l) = (first.to_be_bytes(), last.to_be_bytes());
-                put(&mut bytes, 32, &[rng.range(199, 206) as u8, near(rng, site.c, 4).min(255) as u8, f[0], f[1], l[0], l[1]]);
+                let mut value = vec![rng.range(199, 206) as u8];
+                value.extend([any_cell(rng, site, 4), first, last].map(u16::to_be_bytes).concat());
+                if rng.percent(1) {
+                    // As it was when a cell had one byte.
+                    value.remove(1);
+                }
+                put(&mut bytes, 32, &value);
             }
             25..=39 => put(&mut bytes, 33, &[if rng.percent(50) { rng.range(0, tugs) } else { rng.range(199, 206) } as u8]),
             40..=69 => {

@@ -4,13 +4,13 @@ use std::ops::RangeInclusive;
 
 #[derive(Clone, Copy, PartialEq, Eq, Debug)]
 pub struct State {
-    pub cell: u8,
+    pub cell: u16,
     pub speed: u8,
 }
 
 #[derive(Clone, Copy, PartialEq, Eq, Debug)]
 pub struct Sweep {
-    pub cell: u8,
+    pub cell: u16,
     pub a: u8,
     pub b: u8,
 }
@@ -51,11 +51,27 @@ pub struct Light {
     pub steps: Vec<Step>,
 }
 
+// The limits of a site file: bytes, ticks, cells, states, motions, the sweeps of a motion, and the margin in ticks.
+pub const MAX_SITE: usize = 65_536;
+pub const MAX_H: usize = 1_000;
+pub const MAX_CELLS: usize = 1_000;
+pub const MAX_STATES: usize = 1_280;
+pub const MAX_MOTIONS: usize = 4_000;
+pub const MAX_SWEEPS: usize = 16;
+pub const MAX_MARGIN: usize = 20;
+
+/// Where the margin stands in a site file: the last byte of its head.
+pub const MARGIN_AT: usize = 2 + HEAD_LEN;
+
+// The lengths of its values: H, C and S with 2 bytes each and the margin; a cell with 2 bytes and the speed; two states with 2 bytes each and the span,
+// and behind these the sweeps, each a cell with 2 bytes and its two ends.
+pub const HEAD_LEN: usize = 7;
+pub const STATE_LEN: usize = 3;
+pub const MOTION_LEN: usize = 5;
+pub const SWEEP_LEN: usize = 4;
+
 /// The longest time at the goal that a route or a light may name, in ticks.
 pub const MAX_DWELL: u16 = 1_000;
-
-/// The largest margin of a site, in ticks.
-pub const MAX_MARGIN: usize = 20;
 
 /// Unsigned, high byte first.
 pub fn number(bytes: &[u8]) -> usize {
@@ -94,8 +110,20 @@ pub fn with_head(bytes: &[u8], len: usize) -> Option<Vec<u8>> {
     Some(changed)
 }
 
+impl Sweep {
+    /// The sweep of its bytes.
+    pub fn read(bytes: &[u8]) -> Sweep {
+        Sweep { cell: number(&bytes[..2]) as u16, a: bytes[2], b: bytes[3] }
+    }
+
+    pub fn encode(&self) -> [u8; SWEEP_LEN] {
+        let [high, low] = self.cell.to_be_bytes();
+        [high, low, self.a, self.b]
+    }
+}
+
 impl Motion {
-    fn uses(&self, cell: u8, offset: u8) -> bool {
+    fn uses(&self, cell: u16, offset: u8) -> bool {
         self.sweeps.iter().any(|w| w.cell == cell && w.a <= offset && offset <= w.b)
     }
 
@@ -115,29 +143,29 @@ impl Motion {
 impl Site {
     /// The site of a file, or the first of the numbers 1 to 6 that applies.
     pub fn read(bytes: &[u8]) -> Result<Site, u8> {
-        if bytes.len() > 65_536 {
+        if bytes.len() > MAX_SITE {
             return Err(1);
         }
         let all = fields(bytes).ok_or(2)?;
         let head = match all.first() {
-            Some(&(1, value)) if value.len() == 6 => value,
+            Some(&(1, value)) if value.len() == HEAD_LEN => value,
             _ => return Err(3),
         };
-        let (h, c, s, margin) = (number(&head[..2]), number(&head[2..3]), number(&head[3..5]), number(&head[5..]));
-        if !(1..=1_000).contains(&h) || !(1..=255).contains(&c) || !(1..=256).contains(&s) || !(0..=MAX_MARGIN).contains(&margin) {
+        let (h, c, s, margin) = (number(&head[..2]), number(&head[2..4]), number(&head[4..6]), number(&head[6..]));
+        if !(1..=MAX_H).contains(&h) || !(1..=MAX_CELLS).contains(&c) || !(1..=MAX_STATES).contains(&s) || !(0..=MAX_MARGIN).contains(&margin) {
             return Err(3);
         }
         let later = &all[1..];
-        if later.len() < s || later.len() > s + 2_000 {
+        if later.len() < s || later.len() > s + MAX_MOTIONS {
             return Err(4);
         }
         let (first, second) = later.split_at(s);
-        let state_layout = first.iter().all(|&(tag, value)| tag == 2 && value.len() == 2);
-        let motion_layout = second.iter().all(|&(tag, value)| tag == 3 && (1..=16).any(|k| value.len() == 5 + 3 * k));
+        let state_layout = first.iter().all(|&(tag, value)| tag == 2 && value.len() == STATE_LEN);
+        let motion_layout = second.iter().all(|&(tag, value)| tag == 3 && (1..=MAX_SWEEPS).any(|k| value.len() == MOTION_LEN + SWEEP_LEN * k));
         if !state_layout || !motion_layout {
             return Err(4);
         }
-        let states: Vec<State> = first.iter().map(|&(_, value)| State { cell: value[0], speed: value[1] }).collect();
+        let states: Vec<State> = first.iter().map(|&(_, value)| State { cell: number(&value[..2]) as u16, speed: value[2] }).collect();
         if states.iter().any(|state| state.cell as usize >= c) {
             return Err(5);
         }
@@ -147,7 +175,7 @@ impl Site {
                 from: number(&value[..2]) as u16,
                 to: number(&value[2..4]) as u16,
                 d: value[4],
-                sweeps: value[5..].chunks(3).map(|w| Sweep { cell: w[0], a: w[1], b: w[2] }).collect(),
+                sweeps: value[MOTION_LEN..].chunks(SWEEP_LEN).map(Sweep::read).collect(),
             })
             .collect();
         if motions.iter().any(|motion| !motion.well_formed(c, &states)) {
@@ -226,23 +254,31 @@ impl Site {
     pub fn reached(&self, free: &dyn Fn(usize, usize) -> bool, start: usize, tick: usize) -> Vec<Vec<bool>> {
         let mut reached = vec![vec![false; self.states.len()]; self.h + 1];
         reached[tick][start] = free(self.cell(start), tick);
+        let leading = self.leading();
         for t in tick + 1..=self.h {
             for s in 0..self.states.len() {
-                reached[t][s] = self.by_wait(free, &reached, s, t) || self.by_motion(free, &reached, s, t).is_some();
+                reached[t][s] = self.by_wait(free, &reached, s, t) || self.by_motion(free, &reached, &leading[s], t).is_some();
             }
         }
         reached
     }
 
-    fn by_wait(&self, free: &dyn Fn(usize, usize) -> bool, reached: &[Vec<bool>], s: usize, t: usize) -> bool {
-        let cell = self.cell(s);
-        t > 0 && self.standing(s) && free(cell, t - 1) && free(cell, t) && reached[t - 1][s]
+    /// The motions that lead to each state, by rising numbers.
+    fn leading(&self) -> Vec<Vec<usize>> {
+        let mut leading = vec![vec![]; self.states.len()];
+        self.motions.iter().enumerate().for_each(|(k, motion)| leading[motion.to as usize].push(k));
+        leading
     }
 
-    fn by_motion(&self, free: &dyn Fn(usize, usize) -> bool, reached: &[Vec<bool>], s: usize, t: usize) -> Option<usize> {
-        (0..self.motions.len()).find(|&k| {
+    fn by_wait(&self, free: &dyn Fn(usize, usize) -> bool, reached: &[Vec<bool>], s: usize, t: usize) -> bool {
+        let cell = self.cell(s);
+        t > 0 && self.standing(s) && reached[t - 1][s] && free(cell, t - 1) && free(cell, t)
+    }
+
+    fn by_motion(&self, free: &dyn Fn(usize, usize) -> bool, reached: &[Vec<bool>], motions: &[usize], t: usize) -> Option<usize> {
+        motions.iter().copied().find(|&k| {
             let (from, d) = (self.motions[k].from as usize, self.motions[k].d as usize);
-            self.motions[k].to as usize == s && d <= t && reached[t - d][from] && self.motion_allowed(free, k, t - d)
+            d <= t && reached[t - d][from] && self.motion_allowed(free, k, t - d)
         })
     }
 
@@ -251,6 +287,7 @@ impl Site {
         let reached = self.reached(free, start, tick);
         let unloads = |t: usize| self.unloading(goal, t, dwell).is_some_and(|pairs| pairs.iter().all(|&(cell, at)| free(cell, at)));
         let arrival = (tick..=self.h).find(|&t| reached[t][goal] && unloads(t))?;
+        let leading = self.leading();
         let mut steps = Vec::new();
         let (mut s, mut t) = (goal, arrival);
         while (s, t) != (start, tick) {
@@ -261,7 +298,7 @@ impl Site {
                 }
                 t -= 1;
             } else {
-                let k = self.by_motion(free, &reached, s, t).expect("a reached pair other than the start has a step that leads to it");
+                let k = self.by_motion(free, &reached, &leading[s], t).expect("a reached pair other than the start has a step that leads to it");
                 steps.push(Step::Move(k as u16));
                 t -= self.motions[k].d as usize;
                 s = self.motions[k].from as usize;
@@ -290,15 +327,16 @@ pub fn encode(site: &Site) -> Vec<u8> {
 
 /// The fields of a site's file, so that the generators can damage them one by one.
 pub fn encode_fields(site: &Site) -> Vec<(u8, Vec<u8>)> {
-    let (h, s) = ((site.h as u16).to_be_bytes(), (site.states.len() as u16).to_be_bytes());
-    let mut all = vec![(1, vec![h[0], h[1], site.c as u8, s[0], s[1], site.margin as u8])];
-    all.extend(site.states.iter().map(|state| (2, vec![state.cell, state.speed])));
+    let mut head = [site.h, site.c, site.states.len()].map(|n| (n as u16).to_be_bytes()).concat();
+    head.push(site.margin as u8);
+    let mut all = vec![(1, head)];
+    all.extend(site.states.iter().map(|state| (2, [&state.cell.to_be_bytes()[..], &[state.speed]].concat())));
     all.extend(site.motions.iter().map(|motion| {
         let mut value = Vec::new();
         value.extend(motion.from.to_be_bytes());
         value.extend(motion.to.to_be_bytes());
         value.push(motion.d);
-        value.extend(motion.sweeps.iter().flat_map(|w| [w.cell, w.a, w.b]));
+        value.extend(motion.sweeps.iter().flat_map(Sweep::encode));
         (3, value)
     }));
     all

@@ -2,7 +2,7 @@
 //!
 //! Route searches timestep by timestep: tick by tick, each pair of a state and a tick is tried at most once,
 //! and the search stops at the arrival, the first tick at which the goal is reached and the tug can unload.
-//! A set of states is 256 bits, so the waits of a tick are a few word operations. Other pairs are found by the motions
+//! A set of states is a few words of bits, so the waits of a tick are a few word operations. Other pairs are found by the motions
 //! from the states reached (push) while these are few, and by the motions that lead to the states in question (pull)
 //! while many are reached. Whether a motion may start at a tick is worked out for 256 ticks at a time, when first asked.
 //!
@@ -12,17 +12,25 @@ use crate::desk::Answer;
 use std::cell::RefCell;
 
 const MAX_SITE: usize = 65_536;
-const MAX_MOTIONS: usize = 2_000;
+const MAX_H: usize = 1_000;
+const MAX_CELLS: usize = 1_000;
+const MAX_STATES: usize = 1_280;
+const MAX_MOTIONS: usize = 4_000;
+const MAX_SWEEPS: usize = 16;
+const MAX_MARGIN: usize = 20;
 const MAX_LIGHT: usize = 5_018;
 const MAX_DWELL: usize = 1_000;
 /// A light's head: tag, length, and a value of 15 bytes.
 const LIGHT_HEAD: usize = 18;
 /// A light's step: tag, length, and a value of 2 bytes.
 const LIGHT_STEP: usize = 5;
-const MAX_MARGIN: usize = 20;
-/// A site's head: tag, length, and a value of 6 bytes.
-const HEAD: usize = 9;
-const STATE: usize = 5;
+/// A site's head: tag, length, and a value of 7 bytes.
+const HEAD: usize = 10;
+/// A state: tag, length, and a value of 3 bytes.
+const STATE: usize = 6;
+/// A motion's tag, length, and what its value has before the sweeps.
+const MOTION: usize = 8;
+const SWEEP: usize = 4;
 
 fn be16(bytes: &[u8], at: usize) -> usize {
     bytes[at] as usize * 256 + bytes[at + 1] as usize
@@ -77,31 +85,32 @@ impl<'a> Site<'a> {
         if len == 0 || bytes[0] != 1 || be16(bytes, 1) != HEAD - 3 {
             return Err(3);
         }
-        let (h, c, s, margin) = (be16(bytes, 3), bytes[5] as usize, be16(bytes, 6), bytes[8] as usize);
-        if h == 0 || h > 1_000 || c == 0 || s == 0 || s > 256 || margin > MAX_MARGIN {
+        let (h, c, s, margin) = (be16(bytes, 3), be16(bytes, 5), be16(bytes, 7), bytes[9] as usize);
+        if h == 0 || h > MAX_H || c == 0 || c > MAX_CELLS || s == 0 || s > MAX_STATES || margin > MAX_MARGIN {
             return Err(3);
         }
         let mut at = HEAD;
         for _ in 0..s {
-            if at == len || bytes[at] != 2 || be16(bytes, at + 1) != 2 {
+            if at == len || bytes[at] != 2 || be16(bytes, at + 1) != STATE - 3 {
                 return Err(4);
             }
             at += STATE;
         }
-        let mut motions = Vec::with_capacity(((len - at) / 11).min(MAX_MOTIONS));
+        let mut motions = Vec::with_capacity(((len - at) / (MOTION + SWEEP)).min(MAX_MOTIONS));
         while at < len {
-            let value = be16(bytes, at + 1);
-            if bytes[at] != 3 || !(8..=53).contains(&value) || value % 3 != 2 || motions.len() == MAX_MOTIONS {
+            let field = 3 + be16(bytes, at + 1);
+            let fits = (MOTION + SWEEP..=MOTION + SWEEP * MAX_SWEEPS).contains(&field) && (field - MOTION) % SWEEP == 0;
+            if bytes[at] != 3 || !fits || motions.len() == MAX_MOTIONS {
                 return Err(4);
             }
             motions.push(Motion {
                 from: be16(bytes, at + 3) as u16,
                 to: be16(bytes, at + 5) as u16,
                 d: bytes[at + 7],
-                sweeps: ((value - 5) / 3) as u8,
-                at: at as u32 + 8,
+                sweeps: ((field - MOTION) / SWEEP) as u8,
+                at: (at + MOTION) as u32,
             });
-            at += 3 + value;
+            at += field;
         }
         let site = Site { bytes, h, c, s, margin, motions };
         if (0..s).any(|state| site.cell(state) >= c) {
@@ -113,20 +122,20 @@ impl<'a> Site<'a> {
         Ok(site)
     }
 
-    // Every state field has 5 bytes, so a state's value has a fixed place.
+    // Every state field has the same length, so a state's value has a fixed place.
     pub(crate) fn cell(&self, state: usize) -> usize {
-        self.bytes[HEAD + STATE * state + 3] as usize
+        be16(self.bytes, HEAD + STATE * state + 3)
     }
 
     pub(crate) fn standing(&self, state: usize) -> bool {
-        self.bytes[HEAD + STATE * state + 4] == 0
+        self.bytes[HEAD + STATE * state + 5] == 0
     }
 
     /// Cell, a and b of each sweep.
     pub(crate) fn sweeps(&self, motion: &Motion) -> impl Iterator<Item = (usize, usize, usize)> + 'a {
         let at = motion.at as usize;
         let bytes: &'a [u8] = self.bytes;
-        bytes[at..at + 3 * motion.sweeps as usize].chunks_exact(3).map(|w| (w[0] as usize, w[1] as usize, w[2] as usize))
+        bytes[at..at + SWEEP * motion.sweeps as usize].chunks_exact(SWEEP).map(|w| (be16(w, 0), w[2] as usize, w[3] as usize))
     }
 
     fn motion_ok(&self, motion: &Motion) -> bool {
@@ -169,7 +178,7 @@ impl<'a> Site<'a> {
         }
         for (cell, _, b) in self.sweeps(motion) {
             if self.sweeps(motion).any(|(other, a, _)| other == cell && a == b + 1) {
-                insert(&mut links, b);
+                links[b >> 6] |= 1 << (b & 63);
             }
         }
         links == *wanted
@@ -446,35 +455,36 @@ pub fn route(site: &[u8], board: &[u8], tug: u8, start: u16, tick: u16, goal: u1
         return Answer::plain(14);
     }
     work[..words].fill(0);
-    SEARCH.with_borrow_mut(|search| {
-        let arrival = match search.run(&site, board, start, tick, goal, dwell) {
-            Some(arrival) => arrival,
-            None => return Answer::plain(18),
-        };
-        search.trace(&site, start, tick, goal, arrival);
-        out[..3].copy_from_slice(&[16, 0, LIGHT_HEAD as u8 - 3]);
-        out[3..7].copy_from_slice(&board[..4]);
-        out[7] = tug;
-        for (i, n) in [start, tick, goal, arrival, dwell].into_iter().enumerate() {
-            out[8 + 2 * i..10 + 2 * i].copy_from_slice(&(n as u16).to_be_bytes());
-        }
-        let mut len = LIGHT_HEAD;
-        for &(tag, n) in search.steps.iter().rev() {
-            out[len..len + 3].copy_from_slice(&[tag, 0, 2]);
-            out[len + 3..len + 5].copy_from_slice(&n.to_be_bytes());
-            len += LIGHT_STEP;
-        }
-        Answer { number: 0, value: len as u32, arrival: arrival as u32 }
-    })
+    let trip = Trip { tug, start, tick, goal, dwell };
+    if site.s <= 64 * FEW {
+        SEARCH.with_borrow_mut(|search| search.light(&site, board, trip, out))
+    } else {
+        WIDE_SEARCH.with_borrow_mut(|search| search.light(&site, board, trip, out))
+    }
 }
+
+/// What a route is asked for.
+#[derive(Clone, Copy)]
+struct Trip {
+    tug: u8,
+    start: usize,
+    tick: usize,
+    goal: usize,
+    dwell: usize,
+}
+
+/// Words of a set of states, for most sites and for the largest.
+const FEW: usize = 4;
+const MANY: usize = MAX_STATES.div_ceil(64);
 
 thread_local! {
     // Kept between calls, so that a call does not pay for fresh memory. Nothing is read before it is set.
-    static SEARCH: RefCell<Search> = RefCell::new(Search::new());
+    static SEARCH: RefCell<Search<FEW>> = RefCell::new(Search::new());
+    static WIDE_SEARCH: RefCell<Search<MANY>> = RefCell::new(Search::new());
 }
 
 /// A set of states.
-type Set = [u64; 4];
+type Set<const W: usize> = [u64; W];
 
 /// Words of a row of ticks: 16 for the ticks, and 4 that stay 0, so that a look ahead of up to 255 ticks needs no test.
 const ROW: usize = 20;
@@ -488,22 +498,25 @@ const BEFORE: usize = 256;
 #[derive(Clone, Copy, Default)]
 struct Edge {
     motion: u16,
-    other: u8,
+    other: u16,
     d: u8,
 }
 
-struct Search {
+/// A search with sets of W words.
+struct Search<const W: usize> {
     starts: Starts,
     /// For each tick the states whose cell is free.
-    free: Box<[Set; 1_024]>,
+    free: Box<[Set<W>; 1_024]>,
     /// For each tick, after `BEFORE`, the states reached.
-    reached: Box<[Set; 1_024 + BEFORE]>,
+    reached: Box<[Set<W>; 1_024 + BEFORE]>,
     /// For each tick the states that come into question then, as the from state of a motion has first been reached.
-    fresh: Box<[Set; 1_024 + BEFORE]>,
+    fresh: Box<[Set<W>; 1_024 + BEFORE]>,
     /// For each tick the states that are known to be reached by a motion, before that tick's turn.
-    ahead: Box<[Set; 1_024 + BEFORE]>,
+    ahead: Box<[Set<W>; 1_024 + BEFORE]>,
     incoming: Edges,
     outgoing: Edges,
+    /// For each state the motion that led there last.
+    likely: Vec<Edge>,
     /// The traced steps, last first.
     steps: Vec<(u8, u16)>,
 }
@@ -513,7 +526,7 @@ struct Starts {
     /// `runs[cell][k]`, bit t: the cell is free from t to t + 2^k - 1.
     runs: Box<[[Row; LEVELS]]>,
     /// How many levels are worked out, for each cell.
-    levels: Box<[u8; 256]>,
+    levels: Box<[u8; MAX_CELLS]>,
     /// `allowed[motion]`, bit t: each swept cell is free when the motion starts at t.
     allowed: Box<[[u64; 16]; MAX_MOTIONS]>,
     /// Which quarters of `allowed` are worked out.
@@ -523,15 +536,21 @@ struct Starts {
 /// The motions that lead to each state, or from each, in number order.
 struct Edges {
     edges: Vec<Edge>,
-    at: Box<[u32; 257]>,
+    /// Where those of each state begin, and of the last one end.
+    at: Vec<u32>,
 }
 
-fn has(set: &Set, state: usize) -> bool {
-    set[state >> 6 & 3] >> (state & 63) & 1 == 1
+fn has<const W: usize>(set: &Set<W>, state: usize) -> bool {
+    set[state >> 6] >> (state & 63) & 1 == 1
 }
 
-fn insert(set: &mut Set, state: usize) {
-    set[state >> 6 & 3] |= 1 << (state & 63);
+fn insert<const W: usize>(set: &mut Set<W>, state: usize) {
+    set[state >> 6] |= 1 << (state & 63);
+}
+
+/// So many empty sets.
+fn sets<const W: usize, const N: usize>() -> Box<[Set<W>; N]> {
+    vec![[0; W]; N].into_boxed_slice().try_into().unwrap()
 }
 
 /// The 256 bits of a row from a tick on.
@@ -608,14 +627,15 @@ fn keep_margin(row: &mut Row, h: usize, margin: usize) {
 
 impl Edges {
     fn new() -> Edges {
-        Edges { edges: Vec::new(), at: Box::new([0; 257]) }
+        Edges { edges: Vec::new(), at: Vec::new() }
     }
 
     /// Sorts the motions by the first of two states.
     fn sort(&mut self, site: &Site, ends: impl Fn(&Motion) -> (u16, u16)) {
-        self.at.fill(0);
+        self.at.clear();
+        self.at.resize(site.s + 1, 0);
         for motion in &site.motions {
-            self.at[ends(motion).0 as usize & 255] += 1;
+            self.at[ends(motion).0 as usize] += 1;
         }
         let mut sum = 0;
         for count in self.at.iter_mut() {
@@ -626,9 +646,9 @@ impl Edges {
         self.edges.resize(site.motions.len(), Edge::default());
         for (k, motion) in site.motions.iter().enumerate().rev() {
             let (state, other) = ends(motion);
-            let place = &mut self.at[state as usize & 255];
+            let place = &mut self.at[state as usize];
             *place -= 1;
-            self.edges[*place as usize] = Edge { motion: k as u16, other: other as u8, d: motion.d };
+            self.edges[*place as usize] = Edge { motion: k as u16, other, d: motion.d };
         }
     }
 
@@ -638,6 +658,15 @@ impl Edges {
 }
 
 impl Starts {
+    fn new() -> Starts {
+        Starts {
+            runs: vec![[[0; ROW]; LEVELS]; MAX_CELLS].into(),
+            levels: Box::new([0; MAX_CELLS]),
+            allowed: vec![[0; 16]; MAX_MOTIONS].into_boxed_slice().try_into().unwrap(),
+            known: Box::new([0; MAX_MOTIONS]),
+        }
+    }
+
     fn prepare(&mut self, site: &Site, board: &[u8]) {
         for cell in 0..site.c {
             let row = &mut self.runs[cell][0];
@@ -655,7 +684,7 @@ impl Starts {
         if site.margin > 0 {
             self.runs[..site.c].iter_mut().for_each(|rows| keep_margin(&mut rows[0], site.h, site.margin));
         }
-        self.levels.fill(1);
+        self.levels[..site.c].fill(1);
         self.known[..site.motions.len()].fill(0);
     }
 
@@ -703,7 +732,7 @@ impl Starts {
 
 /// Whether a motion leads to its to state at a tick.
 #[inline(always)]
-fn leads(site: &Site, starts: &mut Starts, reached: &[Set; 1_024 + BEFORE], edge: Edge, tick: usize) -> bool {
+fn leads<const W: usize>(site: &Site, starts: &mut Starts, reached: &[Set<W>; 1_024 + BEFORE], edge: Edge, tick: usize) -> bool {
     has(&reached[tick + BEFORE - edge.d as usize], edge.other as usize) && starts.allow(site, edge.motion as usize, tick - edge.d as usize)
 }
 
@@ -730,36 +759,56 @@ impl Dock<'_> {
     }
 }
 
-fn count(set: &Set) -> usize {
+fn count<const W: usize>(set: &Set<W>) -> usize {
     set.iter().map(|word| word.count_ones() as usize).sum()
 }
 
-impl Search {
-    fn new() -> Search {
+impl<const W: usize> Search<W> {
+    fn new() -> Search<W> {
         Search {
-            starts: Starts {
-                runs: vec![[[0; ROW]; LEVELS]; 255].into(),
-                levels: Box::new([0; 256]),
-                allowed: vec![[0; 16]; MAX_MOTIONS].into_boxed_slice().try_into().unwrap(),
-                known: Box::new([0; MAX_MOTIONS]),
-            },
-            free: Box::new([[0; 4]; 1_024]),
-            reached: Box::new([[0; 4]; 1_024 + BEFORE]),
-            fresh: Box::new([[0; 4]; 1_024 + BEFORE]),
-            ahead: Box::new([[0; 4]; 1_024 + BEFORE]),
+            starts: Starts::new(),
+            free: sets(),
+            reached: sets(),
+            fresh: sets(),
+            ahead: sets(),
             incoming: Edges::new(),
             outgoing: Edges::new(),
+            likely: Vec::new(),
             steps: Vec::new(),
         }
     }
 
+    /// The answer, with the light of a granted route in the output area.
+    fn light(&mut self, site: &Site, board: &[u8], trip: Trip, out: &mut [u8]) -> Answer {
+        let Trip { tug, start, tick, goal, dwell } = trip;
+        let Some(arrival) = self.run(site, board, trip) else { return Answer::plain(18) };
+        self.trace(site, start, tick, goal, arrival);
+        out[..3].copy_from_slice(&[16, 0, LIGHT_HEAD as u8 - 3]);
+        out[3..7].copy_from_slice(&board[..4]);
+        out[7] = tug;
+        for (i, n) in [start, tick, goal, arrival, dwell].into_iter().enumerate() {
+            out[8 + 2 * i..10 + 2 * i].copy_from_slice(&(n as u16).to_be_bytes());
+        }
+        let mut len = LIGHT_HEAD;
+        for &(tag, n) in self.steps.iter().rev() {
+            out[len..len + 3].copy_from_slice(&[tag, 0, 2]);
+            out[len + 3..len + 5].copy_from_slice(&n.to_be_bytes());
+            len += LIGHT_STEP;
+        }
+        Answer { number: 0, value: len as u32, arrival: arrival as u32 }
+    }
+
     fn prepare(&mut self, site: &Site, board: &[u8], tick: usize) {
         self.starts.prepare(site, board);
-        self.reached[tick..=tick + BEFORE].fill([0; 4]);
-        self.fresh[tick..site.h + 1].fill([0; 4]);
-        self.ahead[tick..site.h + 1].fill([0; 4]);
+        self.reached[tick..=tick + BEFORE].fill([0; W]);
+        self.fresh[tick..site.h + 1].fill([0; W]);
+        self.ahead[tick..site.h + 1].fill([0; W]);
         self.incoming.sort(site, |motion| (motion.to, motion.from));
         self.outgoing.sort(site, |motion| (motion.from, motion.to));
+        // A state that comes into question has a motion that leads to it.
+        let first = |state| self.incoming.of(state).first().copied().unwrap_or_default();
+        self.likely.clear();
+        self.likely.extend((0..site.s).map(first));
     }
 
     /// The sets of free states for the 64 ticks of a word.
@@ -785,7 +834,7 @@ impl Search {
     }
 
     /// Tries every motion from the states reached at a tick. Few reached states make this the shorter way.
-    fn push(&mut self, site: &Site, now: &Set, tick: usize) {
+    fn push(&mut self, site: &Site, now: &Set<W>, tick: usize) {
         for (group, &states) in now.iter().enumerate() {
             let mut left = states;
             while left != 0 {
@@ -802,8 +851,8 @@ impl Search {
 
     /// Which of some states are reached at a tick by a motion. Many reached states make this the shorter way,
     /// as the first motion that leads there ends the look at a state.
-    fn pull(&mut self, site: &Site, group: usize, states: u64, tick: usize, likely: &mut [Edge; 256], tried: &mut usize) -> u64 {
-        let Search { starts, reached, incoming, .. } = self;
+    fn pull(&mut self, site: &Site, group: usize, states: u64, tick: usize, tried: &mut usize) -> u64 {
+        let Search { starts, reached, incoming, likely, .. } = self;
         let mut found = 0;
         let mut left = states;
         while left != 0 {
@@ -828,7 +877,8 @@ impl Search {
     }
 
     /// The least tick at which the goal is reached and its cell stays free for the dwell.
-    fn run(&mut self, site: &Site, board: &[u8], start: usize, tick: usize, goal: usize, dwell: usize) -> Option<usize> {
+    fn run(&mut self, site: &Site, board: &[u8], trip: Trip) -> Option<usize> {
+        let Trip { start, tick, goal, dwell, .. } = trip;
         if !site.free(board, site.cell(start), tick, tick) {
             return None;
         }
@@ -840,18 +890,14 @@ impl Search {
         }
         let longest = site.motions.iter().map(|motion| motion.d as usize).max().unwrap_or(0);
         let degree = site.motions.len().div_ceil(site.s);
-        let mut standing = [0; 4];
+        let groups = site.s.div_ceil(64);
+        let mut standing = [0; W];
         for state in (0..site.s).filter(|&state| site.standing(state)) {
             insert(&mut standing, state);
         }
-        // A state that comes into question has a motion that leads to it.
-        let mut likely = [Edge::default(); 256];
-        for (state, edge) in likely.iter_mut().enumerate().take(site.s) {
-            *edge = self.incoming.of(state).first().copied().unwrap_or_default();
-        }
         let mut now = self.reached[tick + BEFORE];
         let mut seen = now;
-        let mut targets: Set = [0; 4];
+        let mut targets: Set<W> = [0; W];
         self.note(start, tick);
         self.push(site, &now, tick);
         let mut pushing = true;
@@ -866,7 +912,7 @@ impl Search {
             let pulling = unpushed.is_some_and(|u| t <= u + longest);
             // How many motions are tried in this tick, or would be if it pulled.
             let mut tried = 0;
-            for group in 0..4 {
+            for group in 0..groups {
                 targets[group] |= self.fresh[t][group];
                 let free = self.free[t][group];
                 let waited = now[group] & standing[group] & free;
@@ -874,7 +920,7 @@ impl Search {
                 if pulling {
                     let open = targets[group] & free & !set;
                     tried += open.count_ones() as usize;
-                    set |= self.pull(site, group, open, t, &mut likely, &mut tried);
+                    set |= self.pull(site, group, open, t, &mut tried);
                 } else {
                     let moved = set & !waited;
                     let missed = targets[group] & free & !set;
@@ -886,7 +932,7 @@ impl Search {
             if has(&now, goal) && dock.unloads(t, dwell) {
                 return Some(t);
             }
-            for group in 0..4 {
+            for group in 0..groups {
                 let mut new = now[group] & !seen[group];
                 seen[group] |= new;
                 while new != 0 {
@@ -894,7 +940,7 @@ impl Search {
                     new &= new - 1;
                 }
             }
-            if now != [0; 4] {
+            if now != [0; W] {
                 last = t;
             } else if t - last >= longest {
                 // Nothing more is reached.

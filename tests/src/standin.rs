@@ -2,7 +2,7 @@
 //! With a fault named in the environment variable DESK_FAULT it is wrong in one way, and the tests must notice.
 
 use crate::desk::Answer;
-use crate::literal::{fields, number, put, with_head, Light, Site, Step, Sweep, MAX_DWELL, MAX_MARGIN};
+use crate::literal::{fields, number, put, with_head, Light, Site, Step, Sweep, HEAD_LEN, MARGIN_AT, MAX_DWELL, MAX_MARGIN, MAX_SWEEPS, MOTION_LEN, SWEEP_LEN};
 use std::sync::OnceLock;
 
 /// The faults: those of the specification ("Wrong desks" of docs/PROMISES.md), then smaller ones, then refusals of a call in the wrong order, then those of the day
@@ -66,15 +66,14 @@ fn enter(file: &[u8], board: &[u8]) -> Result<Site, u8> {
         Err(1) if fault("site-1-2") && fields(file).is_none() => Err(2),
         Err(2) if fault("site-2-3") && !file.is_empty() && file[0] != 1 => Err(3),
         Err(5) if fault("site-5-6") => Err(Site::read(&cells_within(file)).err().unwrap_or(5)),
-        Err(6) if fault("site-6-7") && board.len() != 4 + file[5] as usize * (number(&file[3..5]) + 1) => Err(7),
+        Err(6) if fault("site-6-7") && board.len() != 4 + number(&file[5..7]) * (number(&file[3..5]) + 1) => Err(7),
         Err(6) if fault("swap") => unhanded(file),
-        Err(6) if fault("sweep-one-start") => widened(file, |sweep, _, _| sweep[1] = 0),
-        Err(6) if fault("sweep-one-end") => widened(file, |sweep, d, _| sweep[2] = d),
+        Err(6) if fault("sweep-one-start") => widened(file, |sweep, _, _| sweep.a = 0),
+        Err(6) if fault("sweep-one-end") => widened(file, |sweep, d, _| sweep.b = d),
         Err(6) if fault("sweep-hull") => widened(file, |sweep, _, all| {
-            let cell = sweep[0];
-            for other in all.chunks_exact(3).filter(|other| other[0] == cell) {
-                sweep[1] = sweep[1].min(other[1]);
-                sweep[2] = sweep[2].max(other[2]);
+            for other in all.iter().filter(|other| other.cell == sweep.cell) {
+                sweep.a = sweep.a.min(other.a);
+                sweep.b = sweep.b.max(other.b);
             }
         }),
         Err(3) => with_wrong_head(file),
@@ -100,17 +99,18 @@ fn enter(file: &[u8], board: &[u8]) -> Result<Site, u8> {
 
 /// A file that is refused with 3, as the faults of the head have it.
 fn with_wrong_head(file: &[u8]) -> Result<Site, u8> {
-    let old_head = fault("margin-old-head") && file.starts_with(&[1, 0, 5]);
-    if old_head || (fault("margin-long-head") && file.starts_with(&[1, 0, 7])) {
-        return Site::read(&with_head(file, 6).unwrap());
+    // One without the margin, and one with a byte more.
+    let old_head = fault("margin-old-head") && file.starts_with(&[1, 0, HEAD_LEN as u8 - 1]);
+    if old_head || (fault("margin-long-head") && file.starts_with(&[1, 0, HEAD_LEN as u8 + 1])) {
+        return Site::read(&with_head(file, HEAD_LEN).unwrap());
     }
-    if !file.starts_with(&[1, 0, 6]) || file[8] as usize <= MAX_MARGIN {
+    if !file.starts_with(&[1, 0, HEAD_LEN as u8]) || file[MARGIN_AT] as usize <= MAX_MARGIN {
         return Err(3);
     }
     let mut mended = file.to_vec();
-    mended[8] = 0;
+    mended[MARGIN_AT] = 0;
     let read = Site::read(&mended);
-    match file[8] {
+    match file[MARGIN_AT] {
         21 if fault("margin-21") => read.map(|site| Site { margin: 21, ..site }),
         m if fault("margin-any") => read.map(|site| Site { margin: m as usize, ..site }),
         _ if fault("margin-late") => read.and(Err(3)),
@@ -125,7 +125,7 @@ fn cells_within(file: &[u8]) -> Vec<u8> {
     for (tag, value) in fields(file).unwrap() {
         let mut value = value.to_vec();
         if tag == 2 {
-            value[0] = 0;
+            value[..2].fill(0);
         }
         put(&mut bytes, tag, &value);
     }
@@ -136,11 +136,11 @@ fn cells_within(file: &[u8]) -> Vec<u8> {
 fn unhanded(file: &[u8]) -> Result<Site, u8> {
     let all = fields(file).unwrap();
     let mut bytes = Vec::new();
-    let cell = all[1].1[0];
+    let cell = number(&all[1].1[..2]) as u16;
     for &(tag, value) in &all {
         let mut value = value.to_vec();
-        if tag == 3 && value.len() < 53 {
-            value.extend([cell, 0, value[4]]);
+        if tag == 3 && value.len() < MOTION_LEN + MAX_SWEEPS * SWEEP_LEN {
+            value.extend(Sweep { cell, a: 0, b: value[4] }.encode());
         }
         put(&mut bytes, tag, &value);
     }
@@ -152,21 +152,25 @@ fn unhanded(file: &[u8]) -> Result<Site, u8> {
 }
 
 /// Checks motions as if each sweep used its cell at more offsets. `widen` gets a sweep, the span and all sweeps as they were.
-fn widened(file: &[u8], widen: impl Fn(&mut [u8], u8, &[u8])) -> Result<Site, u8> {
+fn widened(file: &[u8], widen: impl Fn(&mut Sweep, u8, &[Sweep])) -> Result<Site, u8> {
     let mut bytes = Vec::new();
     let mut written = Vec::new();
     for (tag, value) in fields(file).unwrap() {
         let mut value = value.to_vec();
         if tag == 3 {
-            let (d, sweeps) = (value[4], value[5..].to_vec());
-            value[5..].chunks_exact_mut(3).for_each(|sweep| widen(sweep, d, &sweeps));
+            let (d, sweeps): (u8, Vec<Sweep>) = (value[4], value[MOTION_LEN..].chunks_exact(SWEEP_LEN).map(Sweep::read).collect());
+            value.truncate(MOTION_LEN);
+            for mut sweep in sweeps.iter().copied() {
+                widen(&mut sweep, d, &sweeps);
+                value.extend(sweep.encode());
+            }
             written.push(sweeps);
         }
         put(&mut bytes, tag, &value);
     }
     let mut site = Site::read(&bytes)?;
     for (motion, sweeps) in site.motions.iter_mut().zip(written) {
-        motion.sweeps = sweeps.chunks_exact(3).map(|w| Sweep { cell: w[0], a: w[1], b: w[2] }).collect();
+        motion.sweeps = sweeps;
     }
     Ok(site)
 }
@@ -393,6 +397,14 @@ fn search(site: &Site, board: &[u8], start: usize, tick: usize, goal: usize, dwe
         return None;
     }
     reached[tick][start] = true;
+    let (mut from, mut to) = (vec![vec![]; site.states.len()], vec![vec![]; site.states.len()]);
+    for (k, motion) in site.motions.iter().enumerate() {
+        from[motion.from as usize].push(k);
+        to[motion.to as usize].push(k);
+    }
+    if fault("highest") {
+        to.iter_mut().for_each(|motions| motions.reverse());
+    }
     for t in tick..=site.h {
         if fault("earliest") {
             // One arrival for each state and safe interval.
@@ -414,10 +426,8 @@ fn search(site: &Site, board: &[u8], start: usize, tick: usize, goal: usize, dwe
             if may_wait(site, s) && t < site.h && is_free(s, t + 1) {
                 reached[t + 1][s] = true;
             }
-            for (k, motion) in site.motions.iter().enumerate() {
-                if motion.from as usize == s && motion_free(site, board, k, t) {
-                    reached[t + motion.d as usize][motion.to as usize] = true;
-                }
+            for &k in from[s].iter().filter(|&&k| motion_free(site, board, k, t)) {
+                reached[t + site.motions[k].d as usize][site.motions[k].to as usize] = true;
             }
         }
     }
@@ -429,13 +439,9 @@ fn search(site: &Site, board: &[u8], start: usize, tick: usize, goal: usize, dwe
     let (mut s, mut t) = (goal, arrival);
     while (s, t) != (start, tick) {
         let waits = t > tick && may_wait(site, s) && reached[t - 1][s] && is_free(s, t);
-        let mut motions: Vec<usize> = (0..site.motions.len()).collect();
-        if fault("highest") {
-            motions.reverse();
-        }
-        let moves = motions.into_iter().find(|&k| {
+        let moves = to[s].iter().copied().find(|&k| {
             let (from, d) = (site.motions[k].from as usize, site.motions[k].d as usize);
-            site.motions[k].to as usize == s && d <= t - tick && reached[t - d][from] && motion_free(site, board, k, t - d)
+            d <= t - tick && reached[t - d][from] && motion_free(site, board, k, t - d)
         });
         match moves {
             Some(k) if !waits || fault("motion-first") => {

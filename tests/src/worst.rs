@@ -9,20 +9,20 @@ const CELLS: usize = 255;
 /// The cells have a state each, and the last state shares one.
 const LAST: usize = CELLS;
 /// As many motions of 16 sweeps as 65,536 bytes have room for.
-const LONG_MOTIONS: usize = 1_140;
+const LONG_MOTIONS: usize = 888;
 
 /// The number of the kinds of cases.
 pub const KINDS: usize = 5;
 pub const NAMES: [&str; KINDS] = ["zigzag", "zigzag, a third held", "16 sweeps of 255", "handovers last", "walk"];
 
 fn site(speed: u8, last: State, motions: Vec<Motion>) -> Site {
-    let states = (0..CELLS).map(|cell| State { cell: cell as u8, speed }).chain([last]).collect();
+    let states = (0..CELLS).map(|cell| State { cell: cell as u16, speed }).chain([last]).collect();
     Site { h: H, c: CELLS, margin: 0, states, motions }
 }
 
 /// A motion of span 1 from the state of a cell to a state in another cell.
 fn hop(from: usize, to: usize, cell_to: usize) -> Motion {
-    let sweeps = vec![Sweep { cell: from as u8, a: 0, b: 1 }, Sweep { cell: cell_to as u8, a: 1, b: 1 }];
+    let sweeps = vec![Sweep { cell: from as u16, a: 0, b: 1 }, Sweep { cell: cell_to as u16, a: 1, b: 1 }];
     Motion { from: from as u16, to: to as u16, d: 1, sweeps }
 }
 
@@ -51,8 +51,8 @@ pub fn long_sweeps(rng: &mut Rng) -> Site {
     let motions = (0..LONG_MOTIONS).map(|k| {
         let from = k % CELLS;
         let to = (7 * from + 1) % CELLS;
-        let mut sweeps = vec![Sweep { cell: from as u8, a: 0, b: 255 }, Sweep { cell: to as u8, a: 0, b: 255 }];
-        sweeps.extend((2..16).map(|_| Sweep { cell: rng.below(CELLS) as u8, a: 0, b: 254 }));
+        let mut sweeps = vec![Sweep { cell: from as u16, a: 0, b: 255 }, Sweep { cell: to as u16, a: 0, b: 255 }];
+        sweeps.extend((2..16).map(|_| Sweep { cell: rng.below(CELLS) as u16, a: 0, b: 254 }));
         Motion { from: from as u16, to: to as u16, d: 255, sweeps }
     });
     site(0, State { cell: 0, speed: 0 }, motions.collect())
@@ -64,8 +64,8 @@ pub fn handovers() -> Site {
     let motions = (0..LONG_MOTIONS).map(|k| {
         let from = k % (CELLS - 1);
         let to = from + 1;
-        let at_end = (100..107).chain([to]).map(|cell| Sweep { cell: cell as u8, a: SPAN, b: SPAN });
-        let one_by_one = (0..=SPAN).map(|j| Sweep { cell: from as u8, a: j, b: j });
+        let at_end = (100..107).chain([to]).map(|cell| Sweep { cell: cell as u16, a: SPAN, b: SPAN });
+        let one_by_one = (0..=SPAN).map(|j| Sweep { cell: from as u16, a: j, b: j });
         Motion { from: from as u16, to: to as u16, d: SPAN, sweeps: at_end.chain(one_by_one).collect() }
     });
     site(0, State { cell: 0, speed: 0 }, motions.collect())
@@ -78,7 +78,7 @@ pub fn walk() -> Site {
     let back = (0..1_700).map(|k| 2 + k % 200).map(|from| hop(from, from - 2, from - 2));
     let on = (0..end).map(|from| hop(from, from + 1, from + 1));
     let out = [hop(end, 0, 0), hop(end, LAST, CELLS - 1)];
-    site(1, State { cell: (CELLS - 1) as u8, speed: 0 }, back.chain(on).chain(out).collect())
+    site(1, State { cell: (CELLS - 1) as u16, speed: 0 }, back.chain(on).chain(out).collect())
 }
 
 fn row(board: &mut [u8], cell: usize) -> &mut [u8] {

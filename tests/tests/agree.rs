@@ -5,7 +5,7 @@
 use dispatch_tests::desk::{self, Answer};
 use dispatch_tests::gen::{self, Call, Caller, Rng, Size, CALLS};
 use dispatch_tests::lent::{self, Area, Values};
-use dispatch_tests::literal::{encode, with_head, Light, Site, Step, MAX_DWELL, MAX_MARGIN};
+use dispatch_tests::literal::{encode, with_head, Light, Site, Step, MARGIN_AT, MAX_DWELL, MAX_MARGIN};
 use dispatch_tests::plain_board::PlainBoard;
 use dispatch_tests::{plain, pull, run};
 use std::collections::{BTreeMap, BTreeSet};
@@ -221,7 +221,7 @@ fn aparts(call: &Call, answer: &Answer, before: &Lent, left: &Lent) -> Vec<(usiz
     };
     let with_margin = |margin: usize| {
         let mut lent = before.clone();
-        lent.site.all_mut()[8] = margin as u8;
+        lent.site.all_mut()[MARGIN_AT] = margin as u8;
         let answer = run!(plain, call, &mut lent);
         (answer, lent.numbers)
     };
@@ -422,10 +422,11 @@ fn desk_and_plain_program_agree() {
     while tally.calls < calls {
         round += 1;
         let size = match rng.below(100) {
-            0..=17 => Size::Tiny,
-            18..=57 => Size::Row,
-            58..=80 => Size::Small,
-            81..=93 => Size::Long,
+            0..=16 => Size::Tiny,
+            17..=56 => Size::Row,
+            57..=77 => Size::Small,
+            78..=90 => Size::Long,
+            91..=94 => Size::Hall,
             _ => Size::Middle,
         };
         match round % 8 {
@@ -434,11 +435,17 @@ fn desk_and_plain_program_agree() {
             _ => tally.any_file(&mut rng, size),
         }
         // Sites at the limits, now and then: each call on them costs as much as hundreds of others.
-        if round % 400 == 0 {
+        if round % 1_600 == 0 {
             tally.any_board(&mut rng, Size::Large);
         }
         if round % 2_000 == 0 {
             tally.any_file(&mut rng, Size::Large);
+        }
+        if round % 200 == 0 {
+            tally.any_board(&mut rng, Size::Many);
+        }
+        if round % 1_000 == 0 {
+            tally.any_file(&mut rng, Size::Many);
         }
     }
     writeln!(log, "agree: {} calls agree in {:.1} s", tally.calls, began.elapsed().as_secs_f64()).unwrap();

@@ -168,7 +168,7 @@ fn refused_sites_and_boards() {
     for len in [0, 55, 57] {
         assert_eq!(Desk::resume(&file, &vec![0; len]), Err(Refusal::BoardLength));
     }
-    let text = Desk::open(&file[..100]).unwrap_err().to_string();
+    let text = Desk::open(&file[..115]).unwrap_err().to_string();
     assert_eq!(text, "a field of the site file runs past the file's end (2)");
 }
 

@@ -6,7 +6,7 @@
 
 use dispatch_tests::desk::{self, Answer};
 use dispatch_tests::gen::{self, motion_between, Rng};
-use dispatch_tests::literal::{encode, Light, Site, State, Step, MAX_DWELL, MAX_MARGIN};
+use dispatch_tests::literal::{encode, Light, Site, State, Step, MARGIN_AT, MAX_DWELL, MAX_H, MAX_MARGIN, MAX_STATES};
 #[cfg(not(feature = "standin"))]
 use dispatch_tests::worst;
 use dispatch_tests::{plain, pull};
@@ -95,8 +95,8 @@ fn modest_site(rng: &mut Rng) -> Site {
     let (c, s) = if rng.percent(90) { (rng.range(3, 8), rng.range(3, 12)) } else { (rng.range(10, 40), rng.range(20, 80)) };
     let (rolling, long, dock) = (rng.pick(&[20, 50, 80]), rng.pick(&[5, 20, 80]), rng.percent(70));
     let cells = if dock { c - 1 } else { c };
-    let mut states: Vec<State> = (1..s).map(|_| State { cell: rng.below(cells) as u8, speed: rng.percent(rolling) as u8 }).collect();
-    states.push(State { cell: (c - 1) as u8, speed: 0 });
+    let mut states: Vec<State> = (1..s).map(|_| State { cell: rng.below(cells) as u16, speed: rng.percent(rolling) as u8 }).collect();
+    states.push(State { cell: (c - 1) as u16, speed: 0 });
     let mut motions = Vec::new();
     for k in 0..rng.range(s, 4 * s) {
         let from = k % s;
@@ -255,7 +255,7 @@ fn call(route: Route, file: &[u8], board: &[u8], ask: &Ask, areas: &mut Areas) -
 /// A site's file, but with margin 0.
 fn without_margin(file: &[u8]) -> Vec<u8> {
     let mut changed = file.to_vec();
-    changed[8] = 0;
+    changed[MARGIN_AT] = 0;
     changed
 }
 
@@ -274,7 +274,7 @@ struct Tally {
 impl Tally {
     fn new(seed: u64) -> Tally {
         let mut rng = Rng::new(!seed);
-        let garbage = (rng.bytes(18 + 5 * 1_000 + 8), (0..256 * 1_001 + 8).map(|_| rng.draw() as u32).collect());
+        let garbage = (rng.bytes(18 + 5 * MAX_H + 8), (0..MAX_STATES * (MAX_H + 1) + 8).map(|_| rng.draw() as u32).collect());
         Tally { seed, routes: 0, garbage, seen: BTreeMap::new() }
     }
 

@@ -33,28 +33,28 @@ fn file(name: &str) -> Vec<u8> {
 /// The site file of 'Four in line'.
 #[rustfmt::skip]
 const SITE: [(&str, &str); 34] = [
-    ("01 0006", "head, 6 bytes"), ("000C", "H 12"), ("04", "4 cells"), ("0005", "5 states"), ("00", "margin 0"),
-    ("02 0002", "state 0, 2 bytes"), ("00 00", "cell 0, standing"),
-    ("02 0002", "state 1, 2 bytes"), ("01 01", "cell 1, speed 1"),
-    ("02 0002", "state 2, 2 bytes"), ("01 00", "cell 1, standing"),
-    ("02 0002", "state 3, 2 bytes"), ("02 01", "cell 2, speed 1"),
-    ("02 0002", "state 4, 2 bytes"), ("03 00", "cell 3, standing"),
-    ("03 000B", "motion 0, 5 bytes and 2 sweeps of 3"), ("0000 0001 02", "from 0 to 1, span 2"),
-    ("00 00 01", "cell 0 at 0 to 1"), ("01 01 02", "cell 1 at 1 to 2"),
-    ("03 000B", "motion 1, 5 bytes and 2 sweeps of 3"), ("0001 0003 01", "from 1 to 3, span 1"),
-    ("01 00 01", "cell 1 at 0 to 1"), ("02 01 01", "cell 2 at 1 to 1"),
-    ("03 000B", "motion 2, 5 bytes and 2 sweeps of 3"), ("0003 0004 02", "from 3 to 4, span 2"),
-    ("02 00 01", "cell 2 at 0 to 1"), ("03 01 02", "cell 3 at 1 to 2"),
-    ("03 0008", "motion 3, 5 bytes and 1 sweep of 3"), ("0001 0002 02", "from 1 to 2, span 2"),
-    ("01 00 02", "cell 1 at 0 to 2"),
-    ("03 000B", "motion 4, 5 bytes and 2 sweeps of 3"), ("0002 0003 02", "from 2 to 3, span 2"),
-    ("01 00 01", "cell 1 at 0 to 1"), ("02 01 02", "cell 2 at 1 to 2"),
+    ("01 0007", "head, 7 bytes"), ("000C", "H 12"), ("0004", "4 cells"), ("0005", "5 states"), ("00", "margin 0"),
+    ("02 0003", "state 0, 3 bytes"), ("0000 00", "cell 0, standing"),
+    ("02 0003", "state 1, 3 bytes"), ("0001 01", "cell 1, speed 1"),
+    ("02 0003", "state 2, 3 bytes"), ("0001 00", "cell 1, standing"),
+    ("02 0003", "state 3, 3 bytes"), ("0002 01", "cell 2, speed 1"),
+    ("02 0003", "state 4, 3 bytes"), ("0003 00", "cell 3, standing"),
+    ("03 000D", "motion 0, 5 bytes and 2 sweeps of 4"), ("0000 0001 02", "from 0 to 1, span 2"),
+    ("0000 00 01", "cell 0 at 0 to 1"), ("0001 01 02", "cell 1 at 1 to 2"),
+    ("03 000D", "motion 1, 5 bytes and 2 sweeps of 4"), ("0001 0003 01", "from 1 to 3, span 1"),
+    ("0001 00 01", "cell 1 at 0 to 1"), ("0002 01 01", "cell 2 at 1 to 1"),
+    ("03 000D", "motion 2, 5 bytes and 2 sweeps of 4"), ("0003 0004 02", "from 3 to 4, span 2"),
+    ("0002 00 01", "cell 2 at 0 to 1"), ("0003 01 02", "cell 3 at 1 to 2"),
+    ("03 0009", "motion 3, 5 bytes and 1 sweep of 4"), ("0001 0002 02", "from 1 to 2, span 2"),
+    ("0001 00 02", "cell 1 at 0 to 2"),
+    ("03 000D", "motion 4, 5 bytes and 2 sweeps of 4"), ("0002 0003 02", "from 2 to 3, span 2"),
+    ("0001 00 01", "cell 1 at 0 to 1"), ("0002 01 02", "cell 2 at 1 to 2"),
 ];
 
 /// The worked script.
 #[rustfmt::skip]
 const SCRIPT: [(&str, &str); 11] = [
-    ("20 0006", "close, 6 bytes"), ("C8", "closure 200"), ("03", "cell 3"), ("0000", "from tick 0"), ("0008", "to tick 8"),
+    ("20 0007", "close, 7 bytes"), ("C8", "closure 200"), ("0003", "cell 3"), ("0000", "from tick 0"), ("0008", "to tick 8"),
     ("22 0009", "route, 9 bytes"), ("07", "tug 7"), ("0000 0000", "from state 0 at tick 0"), ("0004", "to state 4"), ("0000", "dwell 0"),
     ("23 0000", "post, no bytes"),
 ];
@@ -99,7 +99,7 @@ fn site_file() {
 fn script_and_lines() {
     let script = file("stdin");
     same(&script, &SCRIPT, "crates/day/stdin");
-    let wanted: [(u8, &[u8]); 3] = [(32, &[200, 3, 0, 0, 0, 8]), (34, &[7, 0, 0, 0, 0, 0, 4, 0, 0]), (35, &[])];
+    let wanted: [(u8, &[u8]); 3] = [(32, &[200, 0, 3, 0, 0, 0, 8]), (34, &[7, 0, 0, 0, 0, 0, 4, 0, 0]), (35, &[])];
     assert_eq!(fields(&script).unwrap(), wanted);
     let lines = "0 1 0\n0 1 10\n0 2 0\n";
     assert_eq!(String::from_utf8(file("stdout")).unwrap(), lines, "crates/day/stdout");
@@ -131,27 +131,29 @@ fn posted_board() {
     same(&model.bytes(), &BOARD, "the plain board");
 }
 
-/// Numbers above 255 from here on, so that a byte in the wrong place shows. Two cells; the states 0 to 254 stand in cell 0, state 255 in cell 1. Motion 258
-/// alone leads from state 255 to state 0; 599 others lead from 0 to 255, motion 513 among them, whose number has the same bytes.
+/// Numbers above 255 from here on, so that a byte in the wrong place shows. 700 cells; the states 0 to 254 stand in cell 513, state 255 in cell 258. Motion 258
+/// alone leads from state 255 to state 0; 599 others lead from 0 to 255, motion 513 among them, whose number has the same bytes, as the cells have.
 fn wide() -> Site {
-    let motion = |from, to, cells: [u8; 2]| {
+    let motion = |from, to, cells: [u16; 2]| {
         let sweeps = vec![Sweep { cell: cells[0], a: 0, b: 1 }, Sweep { cell: cells[1], a: 1, b: 1 }];
         Motion { from, to, d: 1, sweeps }
     };
-    let mut motions = vec![motion(0, 255, [0, 1]); 600];
-    motions[258] = motion(255, 0, [1, 0]);
-    let mut states = vec![State { cell: 0, speed: 0 }; 256];
-    states[255].cell = 1;
-    Site { h: 1_000, c: 2, margin: 0, states, motions }
+    let mut motions = vec![motion(0, 255, [513, 258]); 600];
+    motions[258] = motion(255, 0, [258, 513]);
+    let mut states = vec![State { cell: 513, speed: 0 }; 256];
+    states[255].cell = 258;
+    Site { h: 1_000, c: 700, margin: 0, states, motions }
 }
 
-/// The file of that site: H 1,000, 2 cells, 256 states, margin 0; then the states and the motions.
+/// The file of that site: H 1,000, 700 cells, 256 states, margin 0; then the states and the motions.
 fn wide_bytes() -> Vec<u8> {
-    let forth = "03 000B 0000 00FF 01, 00 00 01, 01 01 01 ";
-    let back = "03 000B 00FF 0000 01, 01 00 01, 00 01 01 ";
-    let states = "02 0002 00 00 ".repeat(255) + "02 0002 01 00 ";
-    four::hex(&format!("01 0006 03E8 02 0100 00 {states} {} {back} {}", forth.repeat(258), forth.repeat(600 - 259)))
+    let forth = "03 000D 0000 00FF 01, 0201 00 01, 0102 01 01 ";
+    let back = "03 000D 00FF 0000 01, 0102 00 01, 0201 01 01 ";
+    let states = "02 0003 0201 00 ".repeat(255) + "02 0003 0102 00 ";
+    four::hex(&format!("01 0007 03E8 02BC 0100 00 {states} {} {back} {}", forth.repeat(258), forth.repeat(600 - 259)))
 }
+
+const WIDE_BOARD: usize = 4 + 700 * 1_001;
 
 /// Edition 16,909,060, tug 7, from state 255 at 261 to state 0, arrival 521, dwell 300; wait 259, motion 258.
 const WIDE_LIGHT: &str = "10 000F 01020304 07 00FF 0105 0000 0209 012C, 11 0002 0103, 12 0002 0102";
@@ -159,17 +161,23 @@ const WIDE_LIGHT: &str = "10 000F 01020304 07 00FF 0105 0000 0209 012C, 11 0002 
 #[test]
 fn wide_site() {
     let (site, file) = (wide(), wide_bytes());
-    assert_eq!(file.len(), 9 + 256 * 5 + 600 * 14);
+    let motions = 10 + 256 * 6;
+    assert_eq!(file.len(), motions + 600 * 16);
     assert!(encode(&site) == file, "the encoder's file");
     assert_eq!(Site::read(&file), Ok(site));
-    assert_eq!(desk::open(&file, &mut vec![9; 4 + 2 * 1_001]), Answer::plain(0));
+    assert_eq!(desk::open(&file, &mut vec![9; WIDE_BOARD]), Answer::plain(0));
+    let changed = |at: usize, bytes: &str| {
+        let mut changed = file.clone();
+        changed[at..at + 2].copy_from_slice(&four::hex(bytes));
+        assert_eq!(Site::read(&changed).err().unwrap_or(0), desk::open(&changed, &mut vec![9; WIDE_BOARD]).number);
+        Site::read(&changed).err()
+    };
     // 256 for 0, as motion 0's from and as motion 258's to. With its bytes in the other order it would be 1, a state in the same cell.
     for (motion, at) in [(0, 0), (258, 2)] {
-        let mut changed = file.clone();
-        changed[9 + 256 * 5 + motion * 14 + 3 + at..][..2].copy_from_slice(&four::hex("0100"));
-        assert_eq!(Site::read(&changed), Err(6));
-        assert_eq!(desk::open(&changed, &mut vec![9; 4 + 2 * 1_001]), Answer::plain(6));
+        assert_eq!(changed(motions + motion * 16 + 3 + at, "0100"), Some(6));
     }
+    // Cells 700 and 699 for state 0's. The hall has the second one, but the motions from there don't use it.
+    assert_eq!((changed(10 + 3, "02BC"), changed(10 + 3, "02BB")), (Some(5), Some(6)));
 }
 
 /// No byte twice. Such numbers are too large for any site, but not for the layout.
@@ -180,9 +188,9 @@ fn distinct_bytes() {
     let bytes = four::hex("10 000F 01020304 05 0607 0809 0A0B 0C0D 0E0F, 11 0002 1011, 12 0002 1213");
     assert_eq!(light.encode(), bytes);
     assert_eq!(Light::read(&bytes), Some(light));
-    let motions = vec![Motion { from: 0x0102, to: 0x0304, d: 5, sweeps: vec![Sweep { cell: 6, a: 7, b: 8 }] }];
-    let site = Site { h: 0x090a, c: 11, margin: 14, states: vec![State { cell: 12, speed: 13 }], motions };
-    assert_eq!(encode(&site), four::hex("01 0006 090A 0B 0001 0E, 02 0002 0C 0D, 03 0008 0102 0304 05, 06 07 08"));
+    let motions = vec![Motion { from: 0x0102, to: 0x0304, d: 5, sweeps: vec![Sweep { cell: 0x0607, a: 8, b: 9 }] }];
+    let site = Site { h: 0x0a0b, c: 0x0c0d, margin: 0x12, states: vec![State { cell: 0x0e0f, speed: 0x10 }], motions };
+    assert_eq!(encode(&site), four::hex("01 0007 0A0B 0C0D 0001 12, 02 0003 0E0F 10, 03 0009 0102 0304 05, 0607 08 09"));
     let mut field = Vec::new();
     put(&mut field, 9, &[7; 0x0102]);
     assert_eq!(field, four::hex(&format!("09 0102 {}", "07".repeat(258))));
@@ -190,12 +198,18 @@ fn distinct_bytes() {
     assert_eq!(number(&[1, 2, 3, 4]), 16_909_060);
 }
 
-/// Cell 0 is held until 520, so the tug waits from 261 to 520; motion 258 takes it there at 521, and it unloads until 821.
+/// A board of that site on which the cells 258 and 513 have these ticks, and the others none.
+fn wide_board(edition: &str, cell_258: Vec<u8>, cell_513: Vec<u8>) -> Vec<u8> {
+    let free = |cells: usize| vec![0; cells * 1_001];
+    [four::hex(edition), free(258), cell_258, free(513 - 259), cell_513, free(700 - 514)].concat()
+}
+
+/// Cell 513 is held until 520, so the tug waits from 261 to 520; motion 258 takes it there at 521, and it unloads until 821.
 #[test]
 fn wide_route() {
     let file = wide_bytes();
     let row = |parts: [(u8, usize); 3]| parts.map(|(byte, n)| vec![byte; n]).concat();
-    let mut board = [four::hex("01020304"), row([(0xc8, 521), (0, 301), (0, 179)]), vec![0; 1_001]].concat();
+    let mut board = wide_board("01020304", vec![0; 1_001], row([(0xc8, 521), (0, 301), (0, 179)]));
     let (mut out, mut work) = (vec![9; 5_018], vec![9; 256 * 1_001]);
     let light = four::hex(WIDE_LIGHT);
     let steps = vec![Step::Wait(259), Step::Move(258)];
@@ -206,6 +220,6 @@ fn wide_route() {
     assert_eq!(out[..28], light);
     assert_eq!(desk::audit(&file, &board, &light), Answer::plain(0));
     assert_eq!(desk::post(&file, &mut board, &light), Answer::plain(0));
-    let wanted = [four::hex("01020305"), row([(0xc8, 521), (7, 301), (0, 179)]), row([(0, 261), (7, 261), (0, 479)])].concat();
+    let wanted = wide_board("01020305", row([(0, 261), (7, 261), (0, 479)]), row([(0xc8, 521), (7, 301), (0, 179)]));
     assert!(board == wanted, "the board behind the light");
 }

@@ -86,7 +86,7 @@ fn agree(folder: &Path, site: Option<&[u8]>, script: &[u8], what: &str) {
 
 fn worked_script() -> Vec<u8> {
     let mut script = Vec::new();
-    put(&mut script, 32, &[200, 3, 0, 0, 0, 8]);
+    put(&mut script, 32, &[200, 0, 3, 0, 0, 0, 8]);
     put(&mut script, 34, &[7, 0, 0, 0, 0, 0, 4, 0, 0]);
     put(&mut script, 35, &[]);
     script
@@ -114,9 +114,9 @@ fn quiet_shift() {
         assert_eq!(output(&folder, &[byte]), "99 0 0\n", "the single byte {byte}");
     }
     let script = worked_script();
-    assert_eq!(output(&folder, &script[..9]), "0 1 0\n", "a close field");
+    assert_eq!(output(&folder, &script[..10]), "0 1 0\n", "a close field");
     // A refused open prints its own line, also with an empty script.
-    fs::write(&site_bin, &site[..100]).unwrap();
+    fs::write(&site_bin, &site[..115]).unwrap();
     assert_eq!(output(&folder, &[]), "2 0 0\n", "a cut site.bin");
     fs::remove_file(&site_bin).unwrap();
     assert_eq!(output(&folder, &[]), "3 0 0\n", "no site.bin");
@@ -154,13 +154,13 @@ fn time_at_the_dock() {
     let mut script = Vec::new();
     put(&mut script, 34, &route(0, 2));
     put(&mut script, 35, &[]);
-    put(&mut script, 32, &[200, 3, 0, 7, 0, 7]);
-    put(&mut script, 32, &[200, 3, 0, 8, 0, 8]);
+    put(&mut script, 32, &[200, 0, 3, 0, 7, 0, 7]);
+    put(&mut script, 32, &[200, 0, 3, 0, 8, 0, 8]);
     assert_eq!(output(&folder, &script), "0 0 5\n0 1 0\n17 1 0\n0 2 0\n", "a posted dwell");
     // Case B: two ticks are left behind its arrival.
     for (dwell, lines) in [(2, "0 1 0\n0 1 10\n0 2 0\n"), (3, "0 1 0\n18 1 0\n8 1 0\n")] {
         let mut script = worked_script();
-        script[20] = dwell;
+        script[21] = dwell;
         assert_eq!(output(&folder, &script), lines, "case B with dwell {dwell}");
     }
     // Dwells above 255, on a hall with ticks enough for them: 256 and 1 differ.
@@ -176,7 +176,7 @@ fn margin_between_tugs() {
     let folder = folder("margin");
     let site_bin = folder.join("site.bin");
     let route = |tug: u8, tick: u8| (34, vec![tug, 0, 0, 0, tick, 0, 4, 0, 0]);
-    let close = |holder: u8, cell: u8, tick: u8| (32, vec![holder, cell, 0, tick, 0, tick]);
+    let close = |holder: u8, cell: u8, tick: u8| (32, vec![holder, 0, cell, 0, tick, 0, tick]);
     let post = || (35, vec![]);
     let run = |margin: usize, fields: &[(u8, Vec<u8>)]| {
         fs::write(&site_bin, encode(&four::with_margin(margin))).unwrap();
@@ -196,8 +196,8 @@ fn margin_between_tugs() {
     let closes = [close(200, 1, 4), close(200, 1, 8), close(200, 1, 9), close(201, 1, 10)];
     assert_eq!(run(1, &[&tugs(3)[..], &closes[..]].concat()), "0 0 5\n0 1 0\n0 1 9\n0 2 0\n17 2 0\n17 2 0\n0 3 0\n0 4 0\n");
     assert_eq!(run(21, &tugs(2)), "3 0 0\n");
-    // The worked hall's file as it was before.
-    fs::write(&site_bin, with_head(&four::bytes(), 5).unwrap()).unwrap();
+    // The worked hall's file without the margin.
+    fs::write(&site_bin, with_head(&four::bytes(), 6).unwrap()).unwrap();
     assert_eq!(output(&folder, &worked_script()), "3 0 0\n");
 }
 
@@ -206,7 +206,7 @@ fn margin_between_tugs() {
 fn late_script() {
     let folder = folder("late");
     fs::write(folder.join("site.bin"), four::bytes()).unwrap();
-    for script in [&[][..], &worked_script()[..9]] {
+    for script in [&[][..], &worked_script()[..10]] {
         let mut child = start(&folder, Stdio::piped());
         let mut input = child.stdin.take().unwrap();
         for byte in script {
@@ -260,7 +260,7 @@ fn site_files() {
     let (site, script) = (four::bytes(), worked_script());
     agree(&folder, None, &script, "no site.bin");
     agree(&folder, Some(&[]), &script, "an empty site.bin");
-    agree(&folder, Some(&site[..100]), &script, "a cut site.bin");
+    agree(&folder, Some(&site[..115]), &script, "a cut site.bin");
     for len in [65_536, 65_537, 65_538, 131_072, 131_072 + 100, 200_000] {
         let mut long = site.clone();
         long.resize(len, 0);
@@ -278,7 +278,13 @@ fn site_files() {
         (63, 4, 256),
         (64, 4, 256),
         (63, 255, 256),
-        (1_000, 255, 256),
+        (101, 640, 160),
+        (101, 640, 161),
+        (102, 640, 5),
+        (64, 1_000, 5),
+        (65, 1_000, 5),
+        (11, 1_000, 1_280),
+        (1_000, 1_000, 1_280),
     ] {
         let mut wide = four::site();
         (wide.h, wide.c) = (h, c);
@@ -293,7 +299,7 @@ fn site_files() {
     while encode(&full).len() != 65_536 {
         full = gen::site(&mut rng, Size::Large);
     }
-    full.h = 60;
+    full.h = (16_384 / full.states.len() - 1).min(60);
     let script = gen::script(&mut rng, &full);
     agree(&folder, Some(&encode(&full)), &script, "a site.bin of 65,536 bytes");
     fs::remove_file(folder.join("site.bin")).unwrap();
@@ -310,7 +316,7 @@ fn random_scripts() {
     let mut rng = Rng::new(seed);
     let (mut dwells, mut margins) = (0, 0);
     for run in 0..runs {
-        let size = rng.pick(&[Size::Tiny, Size::Row, Size::Row, Size::Small, Size::Small, Size::Middle]);
+        let size = rng.pick(&[Size::Tiny, Size::Row, Size::Row, Size::Small, Size::Small, Size::Middle, Size::Hall]);
         let site = if rng.percent(20) { four::site() } else { gen::site(&mut rng, size) };
         let script = gen::script(&mut rng, &site);
         let mut file = encode(&site);
@@ -338,7 +344,7 @@ fn script_longer_than_any_area() {
     let mut rng = Rng::new(5);
     while script.len() < 200_000 {
         match rng.below(4) {
-            0 => put(&mut script, 32, &[rng.range(200, 203) as u8, rng.below(4) as u8, 0, 3, 0, rng.range(3, 12) as u8]),
+            0 => put(&mut script, 32, &[rng.range(200, 203) as u8, 0, rng.below(4) as u8, 0, 3, 0, rng.range(3, 12) as u8]),
             1 => put(&mut script, 33, &[rng.pick(&[7, 8, 200, 201, 202, 203])]),
             2 => put(&mut script, 34, &[rng.pick(&[7, 8]), 0, 0, 0, 0, 0, rng.pick(&[2, 4]), 0, rng.pick(&[0, 0, 1, 3])]),
             _ => put(&mut script, 35, &[]),
@@ -354,7 +360,7 @@ fn script_longer_than_any_area() {
 fn stack_of_1_mib() {
     use dispatch_tests::literal::{Motion, State, Sweep};
     let folder = folder("stack");
-    let motion = |from, to, cells: [u8; 2]| {
+    let motion = |from, to, cells: [u16; 2]| {
         let sweeps = vec![Sweep { cell: cells[0], a: 0, b: 1 }, Sweep { cell: cells[1], a: 1, b: 1 }];
         Motion { from, to, d: 1, sweeps }
     };
@@ -363,7 +369,7 @@ fn stack_of_1_mib() {
     let site = Site { h: 1_000, c: 3, margin: 0, states, motions };
     fs::write(folder.join("site.bin"), encode(&site)).unwrap();
     let mut script = Vec::new();
-    put(&mut script, 32, &[200, 2, 0, 0, 3, 230]);
+    put(&mut script, 32, &[200, 0, 2, 0, 0, 3, 230]);
     put(&mut script, 34, &[7, 0, 0, 0, 0, 0, 2, 0, 0]);
     put(&mut script, 35, &[]);
     fs::write(folder.join("script"), &script).unwrap();

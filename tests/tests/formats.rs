@@ -24,14 +24,14 @@ fn whole_site_file() {
     let file = hex("# head: H 12, C 4, S 5");
     assert_eq!(file, fs::read(c::root().join("crates/day/data/site.bin")).unwrap());
     assert_eq!(file, four::bytes());
-    assert_eq!(file.len(), 101);
+    assert_eq!(file.len(), 116);
 }
 
 #[test]
 fn script_light_and_board() {
     let script = hex("# close: closure 200");
     assert_eq!(script, fs::read(c::root().join("crates/day/stdin")).unwrap());
-    assert_eq!(script.len(), 24);
+    assert_eq!(script.len(), 25);
     let mut desk = Desk::open(&hex("# head: H 12, C 4, S 5")).unwrap();
     desk.close(200, 3, 0..=8).unwrap();
     let granted = desk.route(Trip { tug: 7, start: 0, tick: 0, goal: 4, dwell: 0 }).unwrap();
@@ -187,7 +187,7 @@ fn numbers_of_each_call() {
 /// The largest areas, as the table has them.
 #[test]
 fn largest_areas() {
-    let most = Sizes { horizon: 1_000, cells: 255, states: 256, margin: 0 };
+    let most = Sizes { horizon: 1_000, cells: 1_000, states: 1_280, margin: 0 };
     let rows = table(&formats(), "| area | elements | how many |");
     let said = |area: &str| rows.iter().find(|row| row[0] == area).unwrap_or_else(|| panic!("no row {area}"))[2].replace(',', "");
     for (area, needed) in [

@@ -96,10 +96,8 @@ fn four_in_line() {
 #[test]
 fn largest_site() {
     let mut rng = Rng::new(1);
-    let mut site = gen::site(&mut rng, Size::Large);
-    while (site.h, site.c, site.states.len(), site.motions.len()) != (1_000, 255, 256, 2_000) || encode(&site).len() < 65_534 {
-        site = gen::site(&mut rng, Size::Large);
-    }
+    let site = gen::largest(&mut rng, 1);
+    assert_eq!(encode(&site).len(), 65_534);
     shift(&mut rng, &site, compare);
     let file = encode(&site);
     for _ in 0..60 {

@@ -6,7 +6,7 @@ use dispatch::{Refusal, Sizes, Word};
 use dispatch_tests::literal::encode;
 use dispatch_tests::{c, four};
 
-const HEADS: [(u16, u16, u16); 4] = [(12, 4, 5), (1, 1, 1), (1_000, 255, 256), (258, 3, 259)];
+const HEADS: [(u16, u16, u16); 4] = [(12, 4, 5), (1, 1, 1), (1_000, 1_000, 1_280), (258, 516, 259)];
 
 /// Refused, an interval's, a travel time's, a route's, and one that has a bit in every part.
 const WORDS: [u64; 6] = [18, 3 << 8, 50 << 8, 10 << 32 | 38 << 8, 1_000 << 32 | 5_018 << 8, 0x0123_0000_0089_ab00];
@@ -25,7 +25,7 @@ fn source() -> String {
         r#"#define __STDC_CONSTANT_MACROS
 #include "include/dispatch.h"
 #include <stdio.h>
-static const uint8_t site[101] = {{{}}};
+static const uint8_t site[116] = {{{}}};
 /* of constants, so that areas can be arrays */
 static uint8_t board[DISPATCH_BOARD_BYTES(12, 4)], light[DISPATCH_LIGHT_BYTES(12)];
 static uint32_t work[DISPATCH_WORK_WORDS(12, 5)];
@@ -76,7 +76,7 @@ fn wanted() -> String {
         // A count has 32 bits in C and is a usize in Rust: as wide as it can be there.
         text += &format!("{} {} {} {} {}\n", word.number(), word.count() as u32, (word.0 >> 8) as u32, word.length(), word.0 >> 32);
     }
-    text += "1000 255 256 20 65536 5018\n";
+    text += "1000 1000 1280 20 65536 5018\n";
     text += &format!("{} {} {}\n", dispatch::STACK_ROUTE, dispatch::STACK_LIGHT, dispatch::STACK);
     let sizes = Sizes::of(&site()).unwrap();
     text += &format!("{} {} {} {}\n", sizes.horizon, sizes.cells, sizes.states, sizes.margin);

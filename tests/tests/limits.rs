@@ -4,7 +4,7 @@
 use dispatch_tests::desk::{self, Answer};
 use dispatch_tests::gen::{self, possible, Call, Caller, Rng, CALLS};
 use dispatch_tests::lent::Values;
-use dispatch_tests::literal::{encode, with_head, Light, Motion, Site, State, Step, Sweep, MAX_MARGIN};
+use dispatch_tests::literal::{encode, with_head, Light, Motion, Site, State, Step, Sweep, HEAD_LEN, MAX_MARGIN, MAX_SWEEPS, SWEEP_LEN};
 use dispatch_tests::plain_board::PlainBoard;
 use dispatch_tests::{literal_desk, run};
 use std::collections::BTreeSet;
@@ -15,7 +15,7 @@ type Met = BTreeSet<(usize, u8)>;
 /// A ring of states. State k lies in cell k % c, but the last state in the last cell. The first s motions lead each to the next state, and later ones
 /// to the states behind it; all have span 1. State 1 and every fourth one from there is rolling, but not the last state.
 fn ring(h: usize, c: usize, s: usize, motions: usize) -> Site {
-    let cell = |state: usize| if state + 1 == s { c - 1 } else { state % c } as u8;
+    let cell = |state: usize| if state + 1 == s { c - 1 } else { state % c } as u16;
     let states = (0..s).map(|k| State { cell: cell(k), speed: (k % 4 == 1 && k + 1 < s) as u8 }).collect();
     let motion = |k: usize| {
         let from = k % s;
@@ -31,8 +31,8 @@ fn ring(h: usize, c: usize, s: usize, motions: usize) -> Site {
 
 /// Gives a motion another span, and so many sweeps: those that it needs, then of the last cell, up to the motion's end.
 fn reshape(site: &mut Site, k: usize, d: u8, sweeps: usize) {
-    let last = site.c as u8 - 1;
-    let (from, to) = (site.cell(site.motions[k].from as usize) as u8, site.cell(site.motions[k].to as usize) as u8);
+    let last = site.c as u16 - 1;
+    let [from, to] = [site.motions[k].from, site.motions[k].to].map(|state| site.states[state as usize].cell);
     let motion = &mut site.motions[k];
     motion.d = d;
     motion.sweeps = vec![Sweep { cell: from, a: 0, b: d }, Sweep { cell: to, a: d, b: d }];
@@ -41,9 +41,9 @@ fn reshape(site: &mut Site, k: usize, d: u8, sweeps: usize) {
 
 /// Repeats sweeps until the file has so many bytes.
 fn filled(mut site: Site, len: usize) -> Site {
-    let mut more = (len - encode(&site).len()) / 3;
+    let mut more = (len - encode(&site).len()) / SWEEP_LEN;
     for motion in &mut site.motions {
-        while more > 0 && motion.sweeps.len() < 16 {
+        while more > 0 && motion.sweeps.len() < MAX_SWEEPS {
             motion.sweeps.push(motion.sweeps[0]);
             more -= 1;
         }
@@ -57,11 +57,16 @@ fn apart(margin: usize, h: usize) -> Site {
     Site { margin, ..ring(h, 4, 5, 9) }
 }
 
-/// A small hall, changed.
-fn with(change: impl Fn(&mut Site)) -> Site {
-    let mut site = ring(12, 4, 5, 9);
+/// A hall of few states, changed.
+fn with_cells(c: usize, change: impl Fn(&mut Site)) -> Site {
+    let mut site = ring(12, c, 5, 9);
     change(&mut site);
     site
+}
+
+/// A small hall, changed.
+fn with(change: impl Fn(&mut Site)) -> Site {
+    with_cells(4, change)
 }
 
 /// Lets no motion but the last one lead to the last state, so that routes there need it.
@@ -88,7 +93,7 @@ fn slow(h: usize) -> Site {
 /// Sites at each limit of the head and of the numbers of fields and bytes, and one past it, with the number of the refusal.
 #[rustfmt::skip]
 fn sizes() -> Vec<(&'static str, Site, u8)> {
-    let mut needed = ring(12, 4, 5, 2_000);
+    let mut needed = ring(12, 4, 5, 4_000);
     need_last(&mut needed);
     vec![
         ("H 0", with(|site| site.h = 0), 3),
@@ -98,13 +103,26 @@ fn sizes() -> Vec<(&'static str, Site, u8)> {
         ("C 0", with(|site| site.c = 0), 3),
         ("C 1", ring(12, 1, 5, 9), 0),
         ("C 255", ring(12, 255, 5, 9), 0),
+        ("C 256", ring(12, 256, 5, 9), 0),
+        ("C 257", ring(12, 257, 5, 9), 0),
+        ("C 640", ring(12, 640, 5, 9), 0),
+        ("C 1,000", ring(12, 1_000, 5, 9), 0),
+        ("C 1,001", ring(12, 1_001, 5, 9), 3),
+        // Their low bytes are 4.
+        ("C 1,028", with(|site| site.c = 1_028), 3),
+        ("C 65,284", with(|site| site.c = 65_284), 3),
+        ("C 65,535", with(|site| site.c = 65_535), 3),
         ("S 0", with(|site| (site.states, site.motions) = (vec![], vec![])), 3),
         ("S 1", ring(12, 4, 1, 0), 0),
         ("S 256", ring(12, 255, 256, 300), 0),
-        ("S 257", ring(12, 255, 257, 300), 3),
+        ("S 257", ring(12, 255, 257, 300), 0),
+        ("S 1,280", ring(12, 1_000, 1_280, 1_400), 0),
+        ("S 1,281", ring(12, 1_000, 1_281, 1_400), 3),
+        ("S 1,285", ring(12, 4, 1_285, 9), 3),
         ("no motions", ring(12, 4, 5, 0), 0),
-        ("2,000 motions", needed, 0),
-        ("2,001 motions", ring(12, 4, 5, 2_001), 4),
+        ("2,001 motions", ring(12, 4, 5, 2_001), 0),
+        ("4,000 motions", needed, 0),
+        ("4,001 motions", ring(12, 4, 5, 4_001), 4),
         ("margin 1, H 12", apart(1, 12), 0),
         ("margin 20, H 1,000", apart(20, 1_000), 0),
         ("margin 20, H 19", apart(20, 19), 0),
@@ -113,21 +131,37 @@ fn sizes() -> Vec<(&'static str, Site, u8)> {
         ("margin 20, H 41", apart(20, 41), 0),
         ("margin 21", apart(21, 12), 3),
         ("margin 255", apart(255, 12), 3),
-        ("65,536 bytes", filled(ring(12, 4, 6, 2_000), 65_536), 0),
-        ("65,537 bytes", filled(ring(12, 4, 5, 2_000), 65_537), 1),
+        ("65,536 bytes", filled(ring(12, 4, 5, 4_000), 65_536), 0),
+        // An even number of states and fields of the right lengths can't have one byte too many.
+        ("65,538 bytes", filled(ring(12, 4, 6, 4_000), 65_538), 1),
     ]
 }
 
 /// Sites at each limit of the values of states and motions, and one past it.
 #[rustfmt::skip]
 fn values() -> Vec<(&'static str, Site, u8)> {
-    let state = |cell| with(|site| site.states.push(State { cell, speed: 0 }));
-    let sweep = |cell, a, b| with(|site| site.motions[8].sweeps.push(Sweep { cell, a, b }));
+    let state_of = |c, cell| with_cells(c, |site| site.states.push(State { cell, speed: 0 }));
+    let sweep_of = |c, cell, a, b| with_cells(c, |site| site.motions[8].sweeps.push(Sweep { cell, a, b }));
+    let sweep = |cell, a, b| sweep_of(4, cell, a, b);
     vec![
-        ("a state in cell C - 1", state(3), 0),
-        ("a state in cell C", state(4), 5),
+        ("a state in cell C - 1", state_of(4, 3), 0),
+        ("a state in cell C", state_of(4, 4), 5),
+        ("a state in cell 256 of 4", state_of(4, 256), 5),
+        ("a state in cell 65,283 of 4", state_of(4, 65_283), 5),
+        ("a state in cell 255 of 256", state_of(256, 255), 0),
+        ("a state in cell 256 of 256", state_of(256, 256), 5),
+        ("a state in cell 256 of 257", state_of(257, 256), 0),
+        ("a state in cell 999 of 1,000", state_of(1_000, 999), 0),
+        ("a state in cell 1,000 of 1,000", state_of(1_000, 1_000), 5),
         ("a sweep of cell C - 1", sweep(3, 0, 0), 0),
         ("a sweep of cell C", sweep(4, 0, 0), 6),
+        ("a sweep of cell 256 of 4", sweep(256, 0, 0), 6),
+        ("a sweep of cell 65,283 of 4", sweep(65_283, 0, 0), 6),
+        ("a sweep of cell 255 of 256", sweep_of(256, 255, 0, 0), 0),
+        ("a sweep of cell 256 of 256", sweep_of(256, 256, 0, 0), 6),
+        ("a sweep of cell 256 of 257", sweep_of(257, 256, 0, 0), 0),
+        ("a sweep of cell 999 of 1,000", sweep_of(1_000, 999, 0, 0), 0),
+        ("a sweep of cell 1,000 of 1,000", sweep_of(1_000, 1_000, 0, 0), 6),
         ("a sweep up to the span", sweep(0, 1, 1), 0),
         ("a sweep past the span", sweep(0, 1, 2), 6),
         ("from S - 1", with(|site| site.motions.push(site.motions[4].clone())), 0),
@@ -423,7 +457,7 @@ fn each_limit() {
                 assert_eq!(hall.number(call), number, "{name}");
             }
         }
-        let last_needed = ["2,000 motions", "1 sweep", "span 255 below H", "span 255 at H"].contains(&name);
+        let last_needed = ["4,000 motions", "1 sweep", "span 255 below H", "span 255 at H"].contains(&name);
         assert!(!last_needed || hall.moves.contains(&(site.motions.len() as u16 - 1)), "{name}: no route takes the last motion");
         met.extend(hall.met);
     }
@@ -441,11 +475,11 @@ fn margins() {
     }
 }
 
-/// A head of any other length, also with the low byte of the right one: 3 from every call. The one of 5 bytes is as it was before there was a margin.
+/// A head of any other length, also with the low byte of the right one: 3 from every call.
 #[test]
 fn head_lengths() {
     let site = ring(12, 4, 5, 9);
-    for len in (0..=5).chain([7, 8, 256 + 6]) {
+    for len in (0..HEAD_LEN).chain([HEAD_LEN + 1, HEAD_LEN + 2, 256 + HEAD_LEN]) {
         let name = format!("a head of {len} bytes");
         let mut hall = Hall::new(&name, &site);
         hall.file = with_head(&hall.file, len).unwrap();
@@ -466,28 +500,37 @@ fn any_boards_at_each_limit() {
     all_met(&met);
 }
 
-/// As many cells, states and motions as a site may have, 1,000 ticks and the largest margin; some motions with the longest span and the most sweeps, the last one too.
+/// As many cells, states and motions as a site may have, 1,000 ticks and the largest margin. All motions of a ring of so many states would take too many
+/// bytes, so those behind the first round stay within a cell. Some motions have the longest span and the most sweeps, the last one too.
 #[cfg(not(feature = "standin"))]
 fn largest(s: usize, len: usize) -> Site {
-    let mut site = Site { margin: MAX_MARGIN, ..ring(1_000, 255, s, 2_000) };
+    const CELLS: usize = 1_000;
+    let mut site = Site { margin: MAX_MARGIN, ..ring(1_000, CELLS, s, s) };
+    let shared = s - 1 - CELLS;
+    for k in 0..4_000 - s {
+        let (low, cell) = (k / 2 % shared, (k / 2 % shared) as u16);
+        let (from, to) = if k % 2 == 0 { (low, low + CELLS) } else { (low + CELLS, low) };
+        let d = 1 + (k / (2 * shared)) as u8;
+        site.motions.push(Motion { from: from as u16, to: to as u16, d, sweeps: vec![Sweep { cell, a: 0, b: d }] });
+    }
     need_last(&mut site);
-    for k in (s..2_000).step_by(97).chain([1_999]) {
-        reshape(&mut site, k, 255, 16);
+    for k in (s..4_000).step_by(97).chain([3_999]) {
+        reshape(&mut site, k, 255, MAX_SWEEPS);
     }
     filled(site, len)
 }
 
-/// A site of 256 states and 2,000 motions can't have 65,536 bytes, as its head, states and motions leave a multiple of 3 for its sweeps; one of 255
-/// states can. The simple desk takes long here, and reads a site as the literal reading does.
+/// A site of 1,280 states can't have 65,536 bytes, as its head, states and motions leave two bytes more than a multiple of 4; one of 1,279 can. The simple
+/// desk takes long here, and reads a site as the literal reading does.
 #[test]
 #[cfg(not(feature = "standin"))]
 fn all_limits_at_once() {
-    for (s, len) in [(256, 65_535), (255, 65_536)] {
+    for (s, len) in [(1_280, 65_534), (1_279, 65_536)] {
         let site = largest(s, len);
         let name = format!("{s} states and {len} bytes");
         let mut hall = Hall::new(&name, &site);
         hall.tour();
-        assert!(hall.moves.contains(&1_999), "{name}: no route takes the last motion");
+        assert!(hall.moves.contains(&3_999), "{name}: no route takes the last motion");
         hall.any_boards(12, 8);
         all_met(&hall.met);
     }

@@ -3,14 +3,14 @@
 use dispatch_tests::desk;
 use dispatch_tests::literal::{encode, Motion, Site, State, Sweep};
 
-const CELLS: u8 = 2;
+const CELLS: u16 = 2;
 
 /// A sweep's offsets; none where its end lies before its start.
 fn offsets(w: &Sweep) -> Vec<u8> {
     (w.a..=w.b).collect()
 }
 
-fn used(sweeps: &[Sweep], cell: u8, offset: u8) -> bool {
+fn used(sweeps: &[Sweep], cell: u16, offset: u8) -> bool {
     sweeps.iter().any(|w| w.cell == cell && offsets(w).contains(&offset))
 }
 
@@ -31,7 +31,7 @@ fn number(d: u8, sweeps: &[Sweep]) -> u8 {
 }
 
 /// Every sweep of a cell below a bound with ends up to a last one, in either order.
-fn all_sweeps(cells: u8, last: u8) -> Vec<Sweep> {
+fn all_sweeps(cells: u16, last: u8) -> Vec<Sweep> {
     let ends = move |cell| (0..=last).flat_map(move |a| (0..=last).map(move |b| Sweep { cell, a, b }));
     (0..cells).flat_map(ends).collect()
 }

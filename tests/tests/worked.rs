@@ -74,8 +74,8 @@ fn refused(board: &[u8], start: u16, tick: u16, number: u8) {
 }
 
 #[test]
-fn file_has_101_bytes() {
-    assert_eq!(four::bytes().len(), 101);
+fn file_has_116_bytes() {
+    assert_eq!(four::bytes().len(), 116);
 }
 
 #[test]
@@ -316,7 +316,7 @@ fn output_area_of_a_route() {
     }
 }
 
-fn motion(from: u16, to: u16, sweeps: [(u8, u8, u8); 2]) -> Motion {
+fn motion(from: u16, to: u16, sweeps: [(u16, u8, u8); 2]) -> Motion {
     Motion { from, to, d: 1, sweeps: sweeps.map(|(cell, a, b)| Sweep { cell, a, b }).to_vec() }
 }
 
@@ -384,12 +384,12 @@ fn longest_light() {
 fn margin_in_the_head() {
     for (margin, number) in [(0, 0), (20, 0), (21, 3), (255, 3)] {
         let file = encode(&four::with_margin(margin));
-        assert_eq!((file.len(), desk::open(&file, &mut [9; 56]).number), (101, number), "margin {margin}");
+        assert_eq!((file.len(), desk::open(&file, &mut [9; 56]).number), (116, number), "margin {margin}");
     }
-    let old_head = four::hex(&format!("01 0005 000C 04 0005 {}", "02 0002 00 00 ".repeat(5)));
-    assert_eq!(desk::open(&old_head, &mut [9; 56]), Answer::plain(3));
-    assert_eq!(desk::open(&with_head(&old_head, 6).unwrap(), &mut [9; 56]), Answer::plain(0));
-    assert_eq!(desk::open(&with_head(&four::bytes(), 7).unwrap(), &mut [9; 56]), Answer::plain(3));
+    let without = four::hex(&format!("01 0006 000C 0004 0005 {}", "02 0003 0000 00 ".repeat(5)));
+    assert_eq!(desk::open(&without, &mut [9; 56]), Answer::plain(3));
+    assert_eq!(desk::open(&with_head(&without, 7).unwrap(), &mut [9; 56]), Answer::plain(0));
+    assert_eq!(desk::open(&with_head(&four::bytes(), 8).unwrap(), &mut [9; 56]), Answer::plain(3));
 }
 
 /// The worked hall with a margin, and a board on which A's light is posted: cell 0 is held at 0 and 1, cell 1 at 1 to 3, cell 2 at 3 and 4, cell 3

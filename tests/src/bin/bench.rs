@@ -50,7 +50,7 @@ const MOTIONS: usize = 1_000;
 const H: usize = 1_000;
 
 fn grid(rng: &mut Rng) -> Site {
-    let states: Vec<State> = (0..STATES).map(|i| State { cell: (i / 2) as u8, speed: (i % 2) as u8 }).collect();
+    let states: Vec<State> = (0..STATES).map(|i| State { cell: (i / 2) as u16, speed: (i % 2) as u8 }).collect();
     let mut motions = Vec::new();
     for u in 0..100usize {
         let (x, y) = (u % 10, u / 10);
@@ -58,7 +58,7 @@ fn grid(rng: &mut Rng) -> Site {
         for (_, v) in next.into_iter().filter(|n| n.0) {
             let slow = rng.range(2, 3) as u8;
             for (from, to, d) in [(2 * u, 2 * v + 1, 2), (2 * u + 1, 2 * v + 1, 1), (2 * u + 1, 2 * v, slow)] {
-                let sweeps = vec![Sweep { cell: u as u8, a: 0, b: 1 }, Sweep { cell: v as u8, a: 1, b: d }];
+                let sweeps = vec![Sweep { cell: u as u16, a: 0, b: 1 }, Sweep { cell: v as u16, a: 1, b: d }];
                 motions.push(Motion { from: from as u16, to: to as u16, d, sweeps });
             }
         }
@@ -71,7 +71,7 @@ fn grid(rng: &mut Rng) -> Site {
 }
 
 fn scattered(rng: &mut Rng, c: usize, span: (usize, usize), sweeps: usize) -> Site {
-    let states: Vec<State> = (0..STATES).map(|_| State { cell: rng.below(c) as u8, speed: rng.percent(40) as u8 }).collect();
+    let states: Vec<State> = (0..STATES).map(|_| State { cell: rng.below(c) as u16, speed: rng.percent(40) as u8 }).collect();
     let motions = (0..MOTIONS)
         .map(|_| {
             let from = rng.below(STATES);
@@ -86,14 +86,14 @@ fn scattered(rng: &mut Rng, c: usize, span: (usize, usize), sweeps: usize) -> Si
 /// Each motion leaves its cell offset by offset and takes the next one so; both are used at one offset.
 fn adjoining(rng: &mut Rng) -> Site {
     const SPAN: u8 = 14;
-    let states: Vec<State> = (0..STATES).map(|i| State { cell: i as u8, speed: 0 }).collect();
+    let states: Vec<State> = (0..STATES).map(|i| State { cell: i as u16, speed: 0 }).collect();
     let motions = (0..MOTIONS)
         .map(|k| {
             let from = k % STATES;
             let to = (from + rng.range(1, STATES - 1)) % STATES;
             let both = rng.range(0, SPAN as usize) as u8;
-            let leaves = (0..=both).map(|j| Sweep { cell: from as u8, a: j, b: j });
-            let takes = (both..=SPAN).map(|j| Sweep { cell: to as u8, a: j, b: j });
+            let leaves = (0..=both).map(|j| Sweep { cell: from as u16, a: j, b: j });
+            let takes = (both..=SPAN).map(|j| Sweep { cell: to as u16, a: j, b: j });
             Motion { from: from as u16, to: to as u16, d: SPAN, sweeps: leaves.chain(takes).rev().collect() }
         })
         .collect();
@@ -101,7 +101,7 @@ fn adjoining(rng: &mut Rng) -> Site {
 }
 
 fn corridor(rng: &mut Rng) -> Site {
-    let states: Vec<State> = (0..STATES).map(|i| State { cell: (i / 2) as u8, speed: (i % 2) as u8 }).collect();
+    let states: Vec<State> = (0..STATES).map(|i| State { cell: (i / 2) as u16, speed: (i % 2) as u8 }).collect();
     let motions = (0..MOTIONS)
         .map(|k| {
             let from = k % STATES;

@@ -49,7 +49,7 @@ fn main() {
         let n = |i: usize| number(&value[i..i + 2]) as u16;
         let mut arrival = 0;
         let answer = match (head[0], value.len()) {
-            (32, 6) => desk::close(&site, board, value[0], value[1] as u16, n(2), n(4)),
+            (32, 7) => desk::close(&site, board, value[0], n(1), n(3), n(5)),
             (33, 1) => desk::withdraw(&site, board, value[0]),
             (34, len) if len == 9 || (len == 7 && fault("day-dwell-old-field")) => {
                 let (mut out, mut work) = (vec![0u8; 65_536], vec![0u32; 16_384]);
