@@ -38,7 +38,7 @@
     X(DISPATCH_ACCEPTED, 0, "accepted")                                                                                     \
     X(DISPATCH_SITE_TOO_LONG, 1, "the site file has more than 65,536 bytes")                                                \
     X(DISPATCH_SITE_CUT, 2, "a field of the site file runs past the file's end")                                            \
-    X(DISPATCH_SITE_HEAD, 3, "the site file does not begin with a head of 6 bytes with H, C, S and m in range")             \
+    X(DISPATCH_SITE_HEAD, 3, "the site file does not begin with a head of 7 bytes with H, C, S and m in range")             \
     X(DISPATCH_SITE_LAYOUT, 4, "the site file's states or motions have a wrong tag, length, order or number")               \
     X(DISPATCH_STATE_CELL, 5, "a state of the site names a cell that the hall does not have")                               \
     X(DISPATCH_MOTION, 6, "a motion of the site breaks a rule on its values or sweeps")                                     \
@@ -79,13 +79,14 @@ static inline const char *dispatch_text(int number) {
 #define DISPATCH_ARRIVAL(word) ((uint32_t)((word) >> 32))            /* of dispatch_route */
 
 /* The last tick H, the number of cells C, the number of states S and the margin m, as the head of a site file has them. They
- * are read from its first 9 bytes, and are in range once a call has accepted the file. So size the board by them, open it,
- * and then size the other areas: a board by a faulty head has at most 17 MB, and the call refuses it. A file of fewer bytes
- * is refused whatever the board is, a null pointer and 0 included. */
+ * are read from its first 10 bytes, and are in range once a call has accepted the file. So size the board by them, open it,
+ * and then size the other areas. But look at H and C first, as a faulty head can ask for a board of 4 GiB: a file whose H is
+ * above DISPATCH_MOST_H or whose C is above DISPATCH_MOST_C needs no board, since every call refuses it whatever the board
+ * is, a null pointer and 0 included. The same holds of a file of fewer than 10 bytes. */
 #define DISPATCH_SITE_H(site) ((size_t)((site)[3] << 8 | (site)[4]))
-#define DISPATCH_SITE_C(site) ((size_t)(site)[5])
-#define DISPATCH_SITE_S(site) ((size_t)((site)[6] << 8 | (site)[7]))
-#define DISPATCH_SITE_M(site) ((size_t)(site)[8])
+#define DISPATCH_SITE_C(site) ((size_t)((site)[5] << 8 | (site)[6]))
+#define DISPATCH_SITE_S(site) ((size_t)((site)[7] << 8 | (site)[8]))
+#define DISPATCH_SITE_M(site) ((size_t)(site)[9])
 
 /* The edition of a board: how often it has changed. */
 #define DISPATCH_EDITION(board) \
@@ -99,8 +100,8 @@ static inline const char *dispatch_text(int number) {
 
 /* The largest H, C, S and m, the largest site file and the longest light, in bytes: enough for areas that serve every site. */
 #define DISPATCH_MOST_H 1000
-#define DISPATCH_MOST_C 255
-#define DISPATCH_MOST_S 256
+#define DISPATCH_MOST_C 1000
+#define DISPATCH_MOST_S 1280
 #define DISPATCH_MOST_M 20
 #define DISPATCH_MOST_SITE_BYTES 65536
 #define DISPATCH_MOST_LIGHT_BYTES 5018

@@ -6,7 +6,7 @@
 //! use dispatch::{calls, Refusal, Sizes};
 //!
 //! // One cell, on which a tug can stand for the ticks 0 to 9.
-//! let site = [1, 0, 6, 0, 9, 1, 0, 1, 0, 2, 0, 2, 0, 0];
+//! let site = [1, 0, 7, 0, 9, 0, 1, 0, 1, 0, 2, 0, 3, 0, 0, 0];
 //! let sizes = Sizes::of(&site).unwrap();
 //! let mut board = vec![0; sizes.board_bytes()];
 //! calls::open(&site, &mut board).accepted()?;

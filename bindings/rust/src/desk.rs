@@ -52,7 +52,7 @@ impl Desk {
             Some(refusal) => return Err(refusal),
             None => unreachable!("no board has 0 bytes"),
         }
-        let sizes = Sizes::of(site).expect("an accepted site has a head");
+        let sizes = Sizes::of(site).expect("an accepted site has a head in range");
         let mut board = vec![0; sizes.board_bytes()];
         calls::open(site, &mut board).accepted()?;
         Ok(Desk { site: site.to_vec(), sizes, board })
@@ -63,7 +63,7 @@ impl Desk {
     /// ```
     /// use dispatch::{Desk, Refusal};
     ///
-    /// let site = [1, 0, 6, 0, 9, 1, 0, 1, 0, 2, 0, 2, 0, 0];
+    /// let site = [1, 0, 7, 0, 9, 0, 1, 0, 1, 0, 2, 0, 3, 0, 0, 0];
     /// let mut desk = Desk::open(&site)?;
     /// desk.close(200, 0, 3..=4)?;
     /// let kept = desk.board().to_vec();

@@ -11,10 +11,11 @@
 //! use dispatch::{Desk, Refusal, Trip};
 //!
 //! let site = [
-//!     1, 0, 6, 0, 20, 2, 0, 2, 0, // head: the last tick is 20; 2 cells, 2 states, no margin
-//!     2, 0, 2, 0, 0, // state 0: standing on cell 0
-//!     2, 0, 2, 1, 0, // state 1: standing on cell 1
-//!     3, 0, 11, 0, 0, 0, 1, 2, 0, 0, 1, 1, 1, 2, // motion 0: from state 0 to 1 in 2 ticks, on cell 0 at 0 to 1 and on cell 1 at 1 to 2
+//!     1, 0, 7, 0, 20, 0, 2, 0, 2, 0, // head: the last tick is 20; 2 cells, 2 states, no margin
+//!     2, 0, 3, 0, 0, 0, // state 0: standing on cell 0
+//!     2, 0, 3, 0, 1, 0, // state 1: standing on cell 1
+//!     3, 0, 13, 0, 0, 0, 1, 2, // motion 0: from state 0 to 1 in 2 ticks,
+//!     0, 0, 0, 1, 0, 1, 1, 2, // on cell 0 at 0 to 1 and on cell 1 at 1 to 2
 //! ];
 //! let mut desk = Desk::open(&site)?;
 //! desk.close(200, 1, 0..=4)?;

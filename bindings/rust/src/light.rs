@@ -25,7 +25,7 @@ const MOST: usize = 5_018;
 /// use dispatch::{steps, Desk, Refusal, Step, Trip};
 ///
 /// // Two cells, and a motion from the first to the second in 2 ticks.
-/// let site = [1, 0, 6, 0, 20, 2, 0, 2, 0, 2, 0, 2, 0, 0, 2, 0, 2, 1, 0, 3, 0, 11, 0, 0, 0, 1, 2, 0, 0, 1, 1, 1, 2];
+/// let site = [1, 0, 7, 0, 20, 0, 2, 0, 2, 0, 2, 0, 3, 0, 0, 0, 2, 0, 3, 0, 1, 0, 3, 0, 13, 0, 0, 0, 1, 2, 0, 0, 0, 1, 0, 1, 1, 2];
 /// let mut desk = Desk::open(&site)?;
 /// desk.close(200, 1, 0..=4)?;
 /// let granted = desk.route(Trip { tug: 7, start: 0, tick: 0, goal: 1, dwell: 3 })?;

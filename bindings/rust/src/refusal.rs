@@ -35,7 +35,7 @@ macro_rules! refusals {
 refusals! {
     SiteTooLong = 1, "the site file has more than 65,536 bytes";
     SiteCut = 2, "a field of the site file runs past the file's end";
-    SiteHead = 3, "the site file does not begin with a head of 6 bytes with H, C, S and m in range";
+    SiteHead = 3, "the site file does not begin with a head of 7 bytes with H, C, S and m in range";
     SiteLayout = 4, "the site file's states or motions have a wrong tag, length, order or number";
     StateCell = 5, "a state of the site names a cell that the hall does not have";
     Motion = 6, "a motion of the site breaks a rule on its values or sweeps";

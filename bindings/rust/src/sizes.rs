@@ -15,16 +15,29 @@ pub struct Sizes {
 }
 
 impl Sizes {
-    /// What the head says, or nothing if the file is too short to have one. Nothing is checked: the numbers mean something once a call has
+    /// The largest numbers that a site can have: enough for areas that serve every site.
+    pub const MOST: Sizes = Sizes { horizon: 1_000, cells: 1_000, states: 1_280, margin: 20 };
+
+    /// What the head says, or nothing if the file is too short to have one, or if H, C or S is larger than it may be: no call accepts such a
+    /// file, whatever the areas are, and a board for it could have 4 GiB. Nothing else is checked: the numbers mean something once a call has
     /// accepted the file.
+    ///
+    /// ```
+    /// use dispatch::{calls, Refusal, Sizes};
+    ///
+    /// // One cell, on which a tug can stand for the ticks 0 to 9; then with 65,535 cells.
+    /// let mut site = [1, 0, 7, 0, 9, 0, 1, 0, 1, 0, 2, 0, 3, 0, 0, 0];
+    /// assert_eq!(Sizes::of(&site).unwrap().board_bytes(), 14);
+    /// site[5..7].fill(255);
+    /// assert_eq!(Sizes::of(&site), None);
+    /// assert_eq!(calls::open(&site, &mut []).refusal(), Some(Refusal::SiteHead));
+    /// ```
     pub fn of(site: &[u8]) -> Option<Sizes> {
-        let &[_, _, _, h1, h0, c, s1, s0, m] = site.first_chunk()?;
-        Some(Sizes {
-            horizon: u16::from_be_bytes([h1, h0]),
-            cells: c.into(),
-            states: u16::from_be_bytes([s1, s0]),
-            margin: m.into(),
-        })
+        let &[_, _, _, h1, h0, c1, c0, s1, s0, margin] = site.first_chunk()?;
+        let [horizon, cells, states] = [[h1, h0], [c1, c0], [s1, s0]].map(u16::from_be_bytes);
+        let most = Sizes::MOST;
+        let in_range = horizon <= most.horizon && cells <= most.cells && states <= most.states;
+        in_range.then_some(Sizes { horizon, cells, states, margin: margin.into() })
     }
 
     /// The bytes of a cell's row on the board.
