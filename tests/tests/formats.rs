@@ -6,7 +6,7 @@ use dispatch::{steps, Desk, Granted, Refusal, Sizes, Step, Trip};
 use dispatch_tests::docs::{block, bytes, header_numbers, table, text};
 use dispatch_tests::gen::{self, CALLS};
 use dispatch_tests::literal::encode;
-use dispatch_tests::{c, four};
+use dispatch_tests::{c, day, four};
 use std::fs;
 use std::path::{Path, PathBuf};
 use std::process::Command;
@@ -25,6 +25,46 @@ fn whole_site_file() {
     assert_eq!(file, fs::read(c::root().join("crates/day/data/site.bin")).unwrap());
     assert_eq!(file, four::bytes());
     assert_eq!(file.len(), 116);
+}
+
+/// The example with cells above 255: the desk takes it, and a route leads from the one cell to the other.
+#[test]
+fn cells_above_255() {
+    let mut desk = Desk::open(&hex("# head: H 100, C 640, S 2")).unwrap();
+    assert_eq!(desk.sizes(), Sizes { horizon: 100, cells: 640, states: 2, margin: 0 });
+    let granted = desk.route(Trip { tug: 7, start: 0, tick: 0, goal: 1, dwell: 0 }).unwrap();
+    desk.post(&granted.light).unwrap();
+    let held = [(638, 0), (638, 1), (639, 1), (639, 2)];
+    assert!(held.iter().all(|&(cell, tick)| desk.holder(cell, tick) == Some(7)));
+    assert_eq!(desk.board()[4..].iter().filter(|&&byte| byte != 0).count(), held.len());
+}
+
+/// The bytes between the backticks of a table's cell.
+fn in_backticks(cell: &str) -> Vec<u8> {
+    bytes(cell.split('`').nth(1).unwrap())
+}
+
+/// The table of older fields: what it calls mended is in the worked hall's file and script, and what it calls old is refused in its place.
+#[test]
+fn older_files() {
+    let (site, script) = (four::bytes(), fs::read(c::root().join("crates/day/stdin")).unwrap());
+    let rows = table(&formats(), "| field | before | now |");
+    let numbers: Vec<u8> = rows[..4].iter().map(|row| replaced(&site, &in_backticks(&row[2]), &in_backticks(&row[1]))).map(opened).collect();
+    assert_eq!(numbers, [3, 3, 4, 4]);
+    let old = replaced(&script, &in_backticks(&rows[4][2]), &in_backticks(&rows[4][1]));
+    assert_eq!((day::transcript(Some(&site), &script), day::transcript(Some(&site), &old)), ("0 1 0\n0 1 10\n0 2 0\n".into(), "99 0 0\n".into()));
+    assert_eq!(rows.len(), 5);
+}
+
+/// The bytes with another field in the place of one that is there once.
+fn replaced(bytes: &[u8], field: &[u8], by: &[u8]) -> Vec<u8> {
+    let at: Vec<usize> = (0..bytes.len()).filter(|&at| bytes[at..].starts_with(field)).collect();
+    assert_eq!(at.len(), 1, "{field:?} in {bytes:?}");
+    [&bytes[..at[0]], by, &bytes[at[0] + field.len()..]].concat()
+}
+
+fn opened(site: Vec<u8>) -> u8 {
+    Desk::open(&site).map_or_else(|refusal| refusal.number(), |_| 0)
 }
 
 #[test]
@@ -187,7 +227,7 @@ fn numbers_of_each_call() {
 /// The largest areas, as the table has them.
 #[test]
 fn largest_areas() {
-    let most = Sizes { horizon: 1_000, cells: 1_000, states: 1_280, margin: 0 };
+    let most = Sizes::MOST;
     let rows = table(&formats(), "| area | elements | how many |");
     let said = |area: &str| rows.iter().find(|row| row[0] == area).unwrap_or_else(|| panic!("no row {area}"))[2].replace(',', "");
     for (area, needed) in [

@@ -76,7 +76,9 @@ fn wanted() -> String {
         // A count has 32 bits in C and is a usize in Rust: as wide as it can be there.
         text += &format!("{} {} {} {} {}\n", word.number(), word.count() as u32, (word.0 >> 8) as u32, word.length(), word.0 >> 32);
     }
-    text += "1000 1000 1280 20 65536 5018\n";
+    let Sizes { horizon, cells, states, margin } = Sizes::MOST;
+    text += &format!("{horizon} {cells} {states} {margin} 65536 5018\n");
+    assert_eq!((horizon, cells, states, margin), (1_000, 1_000, 1_280, 20));
     text += &format!("{} {} {}\n", dispatch::STACK_ROUTE, dispatch::STACK_LIGHT, dispatch::STACK);
     let sizes = Sizes::of(&site()).unwrap();
     text += &format!("{} {} {} {}\n", sizes.horizon, sizes.cells, sizes.states, sizes.margin);
