@@ -3,6 +3,7 @@
 #![cfg(not(feature = "standin"))]
 
 use dispatch_tests::literal::{encode, Motion, Site, State, Sweep};
+use dispatch_tests::literal::{MAX_CELLS, MAX_H, MAX_MARGIN, MAX_MOTIONS, MAX_SITE, MAX_STATES, MAX_SWEEPS, SWEEP_LEN};
 use dispatch_tests::{c, four};
 use std::fs;
 use std::process::Command;
@@ -52,19 +53,30 @@ int main(void) {{
     assert_eq!(c::run("null_areas", &source), "3 7 3 7 14 3 7 14 14 14 5 3 7 8 3 7 8 3 7 3 7 ");
 }
 
-/// A ring of as many states, cells and motions as a site may have: motion k leads from state k % 256 to a neighbour.
+/// As many states, cells and motions as a site may have, and the largest margin. Motion k leads from state k to the next one, in a ring. The cells have a
+/// state each, but for the last one, which has all the others. The motions behind the ring stay there, where they take few bytes; those that the file still
+/// has room for have 16 sweeps, and all of them the longest span.
 fn largest() -> Site {
-    let cell = |s: usize| s.min(254) as u8;
-    let mut motions = vec![];
-    for k in 0..2000 {
-        let (from, to) = (k % 256, (k % 256 + 1 + k / 256) % 256);
-        let mut sweeps = vec![Sweep { cell: cell(from), a: 0, b: 1 }];
+    let cell = |s: usize| s.min(MAX_CELLS - 1) as u16;
+    let motion = |from: usize, to: usize, d: u8| {
+        let mut sweeps = vec![Sweep { cell: cell(from), a: 0, b: d }];
         if cell(to) != cell(from) {
-            sweeps.push(Sweep { cell: cell(to), a: 1, b: 1 });
+            sweeps.push(Sweep { cell: cell(to), a: d, b: d });
         }
-        motions.push(Motion { from: from as u16, to: to as u16, d: 1, sweeps });
+        Motion { from: from as u16, to: to as u16, d, sweeps }
+    };
+    let shared = MAX_CELLS - 1..MAX_STATES;
+    let mut motions: Vec<Motion> = (0..MAX_STATES).map(|s| motion(s, (s + 1) % MAX_STATES, 1)).collect();
+    motions.extend((shared.start..shared.end - 1).cycle().take(MAX_MOTIONS - MAX_STATES).map(|s| motion(s + 1, s, 255)));
+    let states = (0..MAX_STATES).map(|s| State { cell: cell(s), speed: 0 }).collect();
+    let mut site = Site { h: MAX_H, c: MAX_CELLS, margin: MAX_MARGIN, states, motions };
+    let mut room = MAX_SITE - encode(&site).len();
+    for motion in &mut site.motions[MAX_STATES..] {
+        let more = (MAX_SWEEPS - 1).min(room / SWEEP_LEN);
+        motion.sweeps.extend((0..more).map(|k| Sweep { cell: k as u16, a: 0, b: 255 }));
+        room -= more * SWEEP_LEN;
     }
-    Site { h: 1000, c: 255, margin: 20, states: (0..256).map(|s| State { cell: cell(s), speed: 0 }).collect(), motions }
+    site
 }
 
 /// The calls that are measured, and what the header says of each.
@@ -76,7 +88,7 @@ const CALLS: &str = r#"
 #include <string.h>
 #include <sys/mman.h>
 #include "include/dispatch.h"
-enum { HEAD = 18, FULL = DISPATCH_MOST_LIGHT_BYTES, LONG = HEAD + 5 * 100000, LAST = 14 };
+enum { HEAD = 18, FULL = DISPATCH_MOST_LIGHT_BYTES, LONG = HEAD + 5 * 100000, LAST = 15 };
 static uint8_t site[DISPATCH_MOST_SITE_BYTES + 1], light[LONG], out[FULL];
 /* no steps, and a dwell of 1,000 */
 static const uint8_t dock[HEAD] = {16, 0, 15, 0, 0, 0, 3, 7, 0, 0, 0, 0, 0, 0, 0, 0, 3, 232};
@@ -89,26 +101,28 @@ static uint64_t word;
 static void *run(void *unused) {
     switch (call) {
     case 1: word = dispatch_open(site, site_len, board, board_len); break;
-    case 2: word = dispatch_interval(site, site_len, board, board_len, 254, numbers, sizeof numbers / sizeof *numbers); break;
-    case 3: word = dispatch_route(site, site_len, board, board_len, 7, 0, 0, 200, 900, out, sizeof out, work, work_len); break;
+    case 2: word = dispatch_interval(site, site_len, board, board_len, 999, numbers, sizeof numbers / sizeof *numbers); break;
+    case 3: word = dispatch_route(site, site_len, board, board_len, 7, 0, 0, 80, 900, out, sizeof out, work, work_len); break;
     case 4: word = dispatch_audit(site, site_len, board, board_len, light, LONG); break;
     case 5: word = dispatch_audit(site, site_len, board, board_len, light, FULL); break;
     case 6: word = dispatch_post(site, site_len, board, board_len, light, FULL); break;
     case 7: word = dispatch_withdraw(site, site_len, board, board_len, 7); break;
-    case 8: word = dispatch_close(site, site_len, board, board_len, 200, 254, 0, 1000); break;
+    case 8: word = dispatch_close(site, site_len, board, board_len, 200, 999, 0, 1000); break;
     case 9: word = dispatch_audit(site, site_len, board, board_len, dock, HEAD); break;
     case 10: word = dispatch_post(site, site_len, board, board_len, dock, HEAD); break;
     case 11: word = dispatch_travel(511); break;
-    case 12: word = dispatch_route(site, site_len, board, board_len, 7, 0, 0, 200, 900, out, sizeof out, work, work_len); break;
+    case 12: word = dispatch_route(site, site_len, board, board_len, 7, 0, 0, 80, 900, out, sizeof out, work, work_len); break;
     case 13: word = dispatch_route(0, 0, 0, 0, 0, 0, 0, 0, 0, 0, 0, 0, 0); break;
-    case LAST: word = dispatch_post(0, 0, 0, 0, 0, 0); break;
+    case 14: word = dispatch_post(0, 0, 0, 0, 0, 0); break;
+    /* a light of 980 motions, and a dwell up to the horizon */
+    case LAST: word = dispatch_route(site, site_len, board, board_len, 8, 1, 0, 981, 20, out, sizeof out, work, work_len); break;
     }
     return unused;
 }
 static size_t said(void) {
     switch (call) {
-    case 3: case 12: case 13: return DISPATCH_STACK_ROUTE;
-    case 4: case 5: case 6: case 9: case 10: case LAST: return DISPATCH_STACK_LIGHT;
+    case 3: case 12: case 13: case LAST: return DISPATCH_STACK_ROUTE;
+    case 4: case 5: case 6: case 9: case 10: case 14: return DISPATCH_STACK_LIGHT;
     default: return DISPATCH_STACK;
     }
 }
@@ -119,7 +133,7 @@ static void in_thread(uint8_t *stack, size_t size) {
     if (pthread_create(&thread, &attributes, run, 0) || pthread_join(thread, 0)) exit(3);
 }
 static void prepare(void) {
-    static const uint8_t head[HEAD] = {16, 0, 15, 0, 0, 0, 0, 7, 0, 0, 0, 0, 0, 232, 3, 232, 0, 0};
+    static const uint8_t head[HEAD] = {16, 0, 15, 0, 0, 0, 0, 7, 0, 0, 0, 0, 3, 232, 3, 232, 0, 0};
     FILE *file = fopen("target/c/largest.bin", "rb");
     if (!file) exit(4);
     site_len = fread(site, 1, sizeof site, file);
@@ -129,7 +143,7 @@ static void prepare(void) {
     if (!board || !work) exit(5);
     memcpy(light, head, HEAD);
     for (size_t k = 0; k < 100000; k++) {
-        uint8_t step[5] = {18, 0, 2, 0, (uint8_t)k};
+        uint8_t step[5] = {18, 0, 2, (uint8_t)(k >> 8), (uint8_t)k};
         memcpy(light + HEAD + 5 * k, step, 5);
     }
 }
@@ -178,7 +192,7 @@ int main(void) {
 "#;
 
 /// The numbers of the measured calls, as they come.
-const ANSWERS: [u8; 14] = [0, 0, 0, 8, 0, 0, 0, 0, 0, 0, 0, 12, 3, 3];
+const ANSWERS: [u8; 15] = [0, 0, 0, 8, 0, 0, 0, 0, 0, 0, 0, 12, 3, 3, 0];
 
 /// Builds the calls with a main function, and runs them on the largest site, whose file is written once for all.
 fn on_largest(name: &str, main: &str) -> String {
