@@ -173,10 +173,9 @@ fn hall_cells(rng: &mut Rng) -> usize {
     rng.pick(&[640, 640, 640, MAX_CELLS, 256, 257, 513, any, any, any])
 }
 
-/// The same site in a large hall. Its cells become cells whose low bytes agree, so that a lost high byte makes one cell of several, and cells next to
+/// The same site in a hall of so many cells, more than 255. Its cells become cells whose low bytes agree, so that a lost high byte makes one cell of several, and cells next to
 /// each other at that; those at the ends of the hall and of the low byte are among them.
-pub fn spread(rng: &mut Rng, mut site: Site) -> Site {
-    let hall = hall_cells(rng);
+pub fn spread(rng: &mut Rng, mut site: Site, hall: usize) -> Site {
     let mut cells: Vec<u16> = Vec::new();
     while cells.len() < site.c {
         let any = rng.below(256);
@@ -242,7 +241,8 @@ fn many_site(rng: &mut Rng, margin: usize) -> Site {
     let motions = rng.pick(&[300, 2_001, MAX_MOTIONS]);
     let many = crowded(rng, h, c, margin, s, motions);
     if rng.percent(50) {
-        spread(rng, many)
+        let hall = hall_cells(rng);
+        spread(rng, many, hall)
     } else {
         many
     }
@@ -287,8 +287,8 @@ pub fn site(rng: &mut Rng, size: Size) -> Site {
         Size::Row => return row_site(rng, margin, more),
         Size::Hall => {
             let small = rng.pick(&[Size::Row, Size::Row, Size::Small]);
-            let small = site(rng, small);
-            return spread(rng, small);
+            let (small, hall) = (site(rng, small), hall_cells(rng));
+            return spread(rng, small, hall);
         }
         Size::Many => return many_site(rng, margin),
         Size::Large => return large_site(rng, margin),
@@ -592,8 +592,11 @@ fn near(rng: &mut Rng, limit: usize, bad: usize) -> u16 {
 
 /// A cell. In a large hall it is mostly that of a state, or another one with the same low byte; with a chance of `bad` in 100 there is no such cell.
 fn any_cell(rng: &mut Rng, site: &Site, bad: usize) -> u16 {
-    if site.c < 256 || rng.percent(20 + bad) {
+    if site.c < 256 || rng.percent(20) {
         return near(rng, site.c, bad);
+    }
+    if rng.percent(bad) {
+        return near(rng, site.c, 100);
     }
     let cell = rng.pick(&site.states).cell;
     let alike: Vec<u16> = (cell % 256..site.c as u16).step_by(256).collect();

@@ -489,6 +489,25 @@ fn head_lengths() {
     }
 }
 
+/// With two bytes each, H and C could ask for a board of 4 GiB. The header says that every call refuses such a head without a board, and what it refuses
+/// it for is what it would be with one.
+#[test]
+fn heads_that_need_no_board() {
+    for (h, c) in [(1_001, 1), (1, 1_001), (65_535, 1_000), (1_000, 65_535), (65_535, 65_535)] {
+        let small = ring(1, 1, 1, 0);
+        let mut hall = Hall::new("a faulty head", &small);
+        hall.board.clear();
+        let file = encode(&Site { h, c, ..small.clone() });
+        let too_long = [&file[..], &[0; 65_536]].concat();
+        for (file, number) in [(file.clone(), 3), (file[..file.len() - 1].to_vec(), 2), (file[..9].to_vec(), 2), (too_long, 1)] {
+            hall.file = file;
+            for call in every_call(&small) {
+                assert_eq!(hall.number(call), number, "H {h}, C {c}, {} bytes", hall.file.len());
+            }
+        }
+    }
+}
+
 #[test]
 fn any_boards_at_each_limit() {
     let mut met = Met::new();
