@@ -1,10 +1,11 @@
 //! The day program as an executable against an independent reading of docs/FORMATS.md ('Script', 'What the day program prints').
 
 use dispatch_tests::gen::{self, Rng, Size};
-use dispatch_tests::literal::{encode, put, with_head, Site};
+use dispatch_tests::literal::{encode, put, with_head, Motion, Site, State, Sweep};
 use dispatch_tests::{c, day, four};
 use std::fs;
 use std::io::Write;
+use std::ops::Range;
 use std::path::{Path, PathBuf};
 use std::process::{Child, Command, Stdio};
 use std::time::Duration;
@@ -16,19 +17,24 @@ fn program() -> PathBuf {
     return Path::new(env!("CARGO_MANIFEST_DIR")).join("../target/bin/day");
 }
 
-/// The script with every dwell 0, as far as its fields are whole.
-fn without_dwells(script: &[u8]) -> Vec<u8> {
+/// The script with 0 for some bytes of the value of each field with this tag, as far as its fields are whole.
+fn without(script: &[u8], tag: u8, part: Range<usize>) -> Vec<u8> {
     let mut changed = script.to_vec();
     let mut at = 0;
     while at + 3 <= script.len() {
-        let length = u16::from_be_bytes([script[at + 1], script[at + 2]]) as usize;
-        let end = at + 3 + length;
-        if script[at] == 34 && length == 9 && end <= script.len() {
-            changed[end - 2..end].fill(0);
+        let value = at + 3;
+        let end = value + u16::from_be_bytes([script[at + 1], script[at + 2]]) as usize;
+        if script[at] == tag && value + part.end <= end && end <= script.len() {
+            changed[value..end][part.clone()].fill(0);
         }
         at = end;
     }
     changed
+}
+
+/// The script with every dwell 0.
+fn without_dwells(script: &[u8]) -> Vec<u8> {
+    without(script, 34, 7..9)
 }
 
 /// A folder of its own for each test, as they run at the same time.
@@ -82,6 +88,14 @@ fn agree(folder: &Path, site: Option<&[u8]>, script: &[u8], what: &str) {
     }
     let (got, wanted) = (output(folder, script), day::transcript(site, script));
     assert!(got == wanted, "{what}: the day program prints\n{got}\nand should print\n{wanted}");
+}
+
+/// What the program prints for a site and the fields of a script.
+fn output_of(folder: &Path, site: &Site, fields: &[(u8, Vec<u8>)]) -> String {
+    fs::write(folder.join("site.bin"), encode(site)).unwrap();
+    let mut script = Vec::new();
+    fields.iter().for_each(|(tag, value)| put(&mut script, *tag, value));
+    output(folder, &script)
 }
 
 fn worked_script() -> Vec<u8> {
@@ -178,12 +192,7 @@ fn margin_between_tugs() {
     let route = |tug: u8, tick: u8| (34, vec![tug, 0, 0, 0, tick, 0, 4, 0, 0]);
     let close = |holder: u8, cell: u8, tick: u8| (32, vec![holder, 0, cell, 0, tick, 0, tick]);
     let post = || (35, vec![]);
-    let run = |margin: usize, fields: &[(u8, Vec<u8>)]| {
-        fs::write(&site_bin, encode(&four::with_margin(margin))).unwrap();
-        let mut script = Vec::new();
-        fields.iter().for_each(|(tag, value)| put(&mut script, *tag, value));
-        output(&folder, &script)
-    };
+    let run = |margin: usize, fields: &[(u8, Vec<u8>)]| output_of(&folder, &four::with_margin(margin), fields);
     // Tug 7 is posted as in case A. Tug 8 may not start beside it, and a tick later it waits for one tick.
     let tugs = |tick: u8| [route(7, 0), post(), route(8, tick), post()];
     assert_eq!(run(0, &tugs(1)), "0 0 5\n0 1 0\n18 1 0\n12 1 0\n");
@@ -199,6 +208,66 @@ fn margin_between_tugs() {
     // The worked hall's file without the margin.
     fs::write(&site_bin, with_head(&four::bytes(), 6).unwrap()).unwrap();
     assert_eq!(output(&folder, &worked_script()), "3 0 0\n");
+}
+
+/// A hall of so many cells. State 0 is in cell 256, state 1 in cell 0, and motion 0 leads from the one to the other.
+fn large_hall(c: usize, h: usize) -> Site {
+    let states = [256, 0].map(|cell| State { cell, speed: 0 }).to_vec();
+    let sweeps = vec![Sweep { cell: 256, a: 0, b: 1 }, Sweep { cell: 0, a: 1, b: 1 }];
+    Site { h, c, margin: 0, states, motions: vec![Motion { from: 0, to: 1, d: 1, sweeps }] }
+}
+
+/// Request 6, by its text: what is printed is written out here.
+#[test]
+fn halls_above_255_cells() {
+    let folder = folder("halls");
+    let hall = large_hall(640, 101);
+    let close = |holder: u8, cell: [u8; 2], first: u8, last: u8| (32, vec![holder, cell[0], cell[1], 0, first, 0, last]);
+    let route = |tug: u8, state: u8, tick: u8, goal: u8| (34, vec![tug, 0, state, 0, tick, 0, goal, 0, 0]);
+    let run = |fields: &[(u8, Vec<u8>)]| output_of(&folder, &hall, fields);
+    // Cells 256 and 0 have closures of their own; the last cell is 639.
+    let closes = [close(200, [1, 0], 0, 50), close(201, [0, 0], 0, 40), close(202, [1, 0], 50, 60), close(202, [2, 127], 0, 101)];
+    assert_eq!(run(&closes), "0 1 0\n0 2 0\n17 2 0\n0 3 0\n");
+    assert_eq!(run(&[close(200, [2, 128], 0, 0), close(200, [4, 0], 0, 0), close(200, [255, 255], 0, 0)]), "10 0 0\n10 0 0\n10 0 0\n");
+    // A tug leaves cell 256 when it is open, and stands in the way there and in cell 0, not in cell 512.
+    let tug = [route(7, 0, 50, 1), route(7, 0, 51, 1), (35, vec![]), close(203, [1, 0], 52, 52), close(203, [0, 0], 52, 52), close(203, [2, 0], 52, 52)];
+    assert_eq!(run(&[&closes[..2], &tug[..]].concat()), "0 1 0\n0 2 0\n18 2 0\n0 2 52\n0 3 0\n17 3 0\n17 3 0\n0 4 0\n");
+    // Cell 256 is open again, and cell 0 is not.
+    let opened = [(33, vec![200]), route(7, 0, 30, 0), route(7, 1, 30, 1)];
+    assert_eq!(run(&[&closes[..2], &opened[..]].concat()), "0 1 0\n0 2 0\n0 3 0\n0 3 30\n18 3 0\n");
+    // The field as it was before, and other lengths.
+    let long = [200, 0, 3, 0, 0, 0, 8, 0];
+    for len in [5, 6, 8] {
+        assert_eq!(run(&[(32, long[..len].to_vec()), (32, long[..7].to_vec())]), "99 0 0\n", "a close field of {len} bytes");
+    }
+    assert_eq!(run(&[(32, long[..7].to_vec())]), "0 1 0\n");
+    // Boards of 65,284 and 65,924 bytes, and of 65,004 and 66,004; C 1,001.
+    for (c, h, line) in [(640, 101, "0 0 0\n"), (640, 102, "7 0 0\n"), (1_000, 64, "0 0 0\n"), (1_000, 65, "7 0 0\n"), (1_001, 12, "3 0 0\n")] {
+        assert_eq!(output_of(&folder, &large_hall(c, h), &[]), line, "{c} cells, H {h}");
+    }
+    // The worked hall's file as it was before.
+    let old = four::hex("01 0006 000C 04 0005 00, 02 0002 00 00, 02 0002 01 01, 02 0002 01 00, 02 0002 02 01, 02 0002 03 00");
+    fs::write(folder.join("site.bin"), old).unwrap();
+    assert_eq!(output(&folder, &worked_script()), "3 0 0\n");
+}
+
+/// Scripts on halls of 640 cells with the longest horizon that the areas have room for.
+#[test]
+fn scripts_for_640_cells() {
+    let folder = folder("works");
+    let mut rng = Rng::new(4);
+    let (runs, mut cells, mut alike) = (60, 0, 0);
+    for run in 0..runs {
+        let row = Site { h: 101, ..gen::site(&mut rng, Size::Row) };
+        let site = gen::spread(&mut rng, row, 640);
+        let (file, script) = (encode(&site), gen::script(&mut rng, &site));
+        agree(&folder, Some(&file), &script, &format!("script {run}"));
+        let lines = day::transcript(Some(&file), &script);
+        cells += usize::from(lines.lines().any(|line| line.starts_with("0 ")));
+        alike += usize::from(lines != day::transcript(Some(&file), &without(&script, 32, 1..2)));
+    }
+    assert!(cells * 2 >= runs, "only {cells} of {runs} scripts have a call that is accepted");
+    assert!(alike * 10 >= runs, "only {alike} of {runs} scripts print something else without the high bytes of their closes' cells");
 }
 
 /// A script that comes slowly is waited for: it is neither empty nor cut.
@@ -316,8 +385,8 @@ fn random_scripts() {
     let mut rng = Rng::new(seed);
     let (mut dwells, mut margins) = (0, 0);
     for run in 0..runs {
-        let size = rng.pick(&[Size::Tiny, Size::Row, Size::Row, Size::Small, Size::Small, Size::Middle, Size::Hall]);
-        let site = if rng.percent(20) { four::site() } else { gen::site(&mut rng, size) };
+        let size = rng.pick(&[Size::Tiny, Size::Row, Size::Row, Size::Small, Size::Small, Size::Middle]);
+        let site = if rng.percent(20) { four::with_margin(gen::any_margin(&mut rng)) } else { gen::site(&mut rng, size) };
         let script = gen::script(&mut rng, &site);
         let mut file = encode(&site);
         if rng.percent(5) {
@@ -332,7 +401,7 @@ fn random_scripts() {
         margins += usize::from(!damaged && lines != day::transcript(Some(&without_margin), &script));
     }
     // A short run may have few of them.
-    assert!(runs < 300 || margins * 20 >= runs, "only {margins} of {runs} scripts print something else without the margin");
+    assert!(runs < 300 || margins * 40 >= runs, "only {margins} of {runs} scripts print something else without the margin");
     assert!(runs < 300 || dwells * 20 >= runs, "only {dwells} of {runs} scripts print something else without their dwells");
 }
 
@@ -358,7 +427,6 @@ fn script_longer_than_any_area() {
 #[cfg(not(feature = "standin"))]
 #[test]
 fn stack_of_1_mib() {
-    use dispatch_tests::literal::{Motion, State, Sweep};
     let folder = folder("stack");
     let motion = |from, to, cells: [u16; 2]| {
         let sweeps = vec![Sweep { cell: cells[0], a: 0, b: 1 }, Sweep { cell: cells[1], a: 1, b: 1 }];
