@@ -2,15 +2,18 @@
 //! With a fault named in the environment variable DESK_FAULT it is wrong in one way, and the tests must notice.
 
 use crate::desk::Answer;
-use crate::literal::{fields, number, put, with_head, Light, Site, Step, Sweep, HEAD_LEN, MARGIN_AT, MAX_DWELL, MAX_MARGIN, MAX_SWEEPS, MOTION_LEN, SWEEP_LEN};
+use crate::literal::{fields, number, put, with_head, Light, Motion, Site, State, Step, Sweep, HEAD_LEN, MARGIN_AT, MOTION_LEN, STATE_LEN, SWEEP_LEN};
+use crate::literal::{MAX_CELLS, MAX_DWELL, MAX_MARGIN, MAX_MOTIONS, MAX_STATES, MAX_SWEEPS};
+use std::borrow::Cow;
 use std::sync::OnceLock;
 
 /// The faults: those of the specification ("Wrong desks" of docs/PROMISES.md), then smaller ones, then refusals of a call in the wrong order, then those of the day
 /// program with an empty script, then those of the time at the dock: the search, what is checked and held, number 10, layouts and areas, the
-/// day program; then those of where a sweep uses its cell; then those of the travel times; last those of the margin: how far it reaches, whose bytes
-/// count, who asks for it, close's rule, what is written, and the head.
+/// day program; then those of where a sweep uses its cell; then those of the travel times; then those of the margin: how far it reaches, whose bytes
+/// count, who asks for it, close's rule, what is written, and the head; last those of halls above 255 cells: a cell's high byte lost, its bytes
+/// exchanged, limits, older lengths, the day program.
 #[rustfmt::skip]
-pub const FAULTS: [&str; 141] = [
+pub const FAULTS: [&str; 172] = [
     "earliest", "endpoints", "rolling", "swap", "no-plan", "empty-light", "first-step", "no-mark", "light-edition", "interval-end",
     "unmerged", "highest", "motion-first", "edition", "work-kept", "work-long", "tail", "refused-write", "low-byte", "unknown-free",
     "withdraw-edition", "interval-tail", "board-longer", "light-trailing", "stands-edition", "arrival",
@@ -35,6 +38,12 @@ pub const FAULTS: [&str; 141] = [
     "close-margin-over-rows", "close-margin-closures", "close-margin-unknown", "close-margin-unheld", "close-margin-199", "close-margin-200",
     "margin-posted", "margin-closed",
     "margin-21", "margin-20", "margin-any", "margin-old-head", "margin-long-head", "margin-from-states", "margin-late", "margin-4",
+    "hall-low-head", "hall-low-state", "hall-low-sweep", "hall-low-close", "hall-low-interval", "hall-low-free", "hall-low-mark", "hall-low-rules",
+    "hall-swapped-head", "hall-swapped-state", "hall-swapped-sweep", "hall-swapped-close", "hall-swapped-interval",
+    "hall-255-cells", "hall-999-cells", "hall-1001-cells", "hall-256-states", "hall-1279-states", "hall-1281-states",
+    "hall-2000-motions", "hall-3999-motions", "hall-4001-motions",
+    "hall-old-head", "hall-older-head", "hall-old-state", "hall-old-sweep", "hall-old-file",
+    "day-low-close", "day-swapped-close", "day-old-close", "day-wide-area",
 ];
 
 pub fn fault(name: &str) -> bool {
@@ -62,6 +71,7 @@ fn first(call: &str, checks: &[(u8, &dyn Fn() -> bool)]) -> Result<(), u8> {
 }
 
 fn enter(file: &[u8], board: &[u8]) -> Result<Site, u8> {
+    let file = &misread(file);
     let mut site = match Site::read(file) {
         Err(1) if fault("site-1-2") && fields(file).is_none() => Err(2),
         Err(2) if fault("site-2-3") && !file.is_empty() && file[0] != 1 => Err(3),
@@ -76,8 +86,11 @@ fn enter(file: &[u8], board: &[u8]) -> Result<Site, u8> {
                 sweep.b = sweep.b.max(other.b);
             }
         }),
-        Err(3) => with_wrong_head(file),
+        Err(6) if fault("hall-low-rules") => by_low_bytes(file),
+        Err(3) => with_wrong_head(file).or_else(|number| with_wrong_limits(file, number)),
+        Err(4) => with_wrong_limits(file, 4),
         Ok(site) if site.margin == MAX_MARGIN && fault("margin-20") => Err(3),
+        Ok(site) => within_lower_limits(site),
         other => other,
     }?;
     site.margin = match site.margin {
@@ -95,6 +108,136 @@ fn enter(file: &[u8], board: &[u8]) -> Result<Site, u8> {
     } else {
         Err(7)
     }
+}
+
+/// Changes the values of a file's fields, if their lengths are right.
+fn changed(file: &[u8], change: impl Fn(u8, &mut Vec<u8>)) -> Vec<u8> {
+    let Some(all) = fields(file) else { return file.to_vec() };
+    let mut bytes = Vec::new();
+    for (tag, value) in all {
+        let mut value = value.to_vec();
+        change(tag, &mut value);
+        put(&mut bytes, tag, &value);
+    }
+    bytes
+}
+
+/// Changes C, the cells of states or those of sweeps, each in its two bytes.
+fn change_cells(tag: u8, value: &mut [u8], part: &str, change: impl Fn(&mut [u8])) {
+    match (tag, part) {
+        (1, "head") if value.len() == HEAD_LEN => change(&mut value[2..4]),
+        (2, "state") if value.len() == STATE_LEN => change(&mut value[..2]),
+        (3, "sweep") if value.len() > MOTION_LEN => value[MOTION_LEN..].chunks_exact_mut(SWEEP_LEN).for_each(|sweep| change(&mut sweep[..2])),
+        _ => {}
+    }
+}
+
+/// The file as a desk reads it that loses the high byte of its cells, or exchanges their bytes.
+fn misread(file: &[u8]) -> Cow<'_, [u8]> {
+    for part in ["head", "state", "sweep"] {
+        if fault(&format!("hall-low-{part}")) {
+            return changed(file, |tag, value| change_cells(tag, value, part, |cell| cell[0] = 0)).into();
+        }
+        if fault(&format!("hall-swapped-{part}")) {
+            return changed(file, |tag, value| change_cells(tag, value, part, |cell| cell.swap(0, 1))).into();
+        }
+    }
+    file.into()
+}
+
+/// Checks motions as if cells were the same that have the same low byte.
+fn by_low_bytes(file: &[u8]) -> Result<Site, u8> {
+    let c = number(&file[5..7]);
+    let cut = |cell: &mut [u8]| cell[0] = if number(cell) < c { 0 } else { cell[0] };
+    let cut_file = |file: &[u8], part: &str| changed(file, |tag, value| change_cells(tag, value, part, cut));
+    let site = Site::read(&cut_file(&cut_file(file, "sweep"), "state"))?;
+    let cells = |tag: u8| fields(file).unwrap().into_iter().filter(move |field| field.0 == tag).map(|field| field.1);
+    let states = site.states.iter().zip(cells(2)).map(|(state, value)| State { cell: number(&value[..2]) as u16, ..*state }).collect();
+    let sweeps = cells(3).map(|value| value[MOTION_LEN..].chunks_exact(SWEEP_LEN).map(Sweep::read).collect());
+    let motions = site.motions.iter().zip(sweeps).map(|(motion, sweeps)| Motion { sweeps, ..motion.clone() }).collect();
+    Ok(Site { states, motions, ..site })
+}
+
+/// An accepted site, if it keeps limits that are too low.
+fn within_lower_limits(site: Site) -> Result<Site, u8> {
+    let above = |limits: &[usize], what: &str, n: usize| limits.iter().any(|&limit| n > limit && fault(&format!("hall-{limit}-{what}")));
+    if above(&[255, 999], "cells", site.c) || above(&[256, 1_279], "states", site.states.len()) {
+        return Err(3);
+    }
+    if above(&[2_000, 3_999], "motions", site.motions.len()) {
+        return Err(4);
+    }
+    Ok(site)
+}
+
+/// A file that is refused with 3 or 4, as desks have it whose limits are too high, or that take older lengths.
+fn with_wrong_limits(file: &[u8], refused: u8) -> Result<Site, u8> {
+    let older = [("hall-old-head", 6), ("hall-older-head", 5), ("hall-old-state", 0), ("hall-old-sweep", 0), ("hall-old-file", 6)];
+    if let Some((name, head)) = older.into_iter().find(|older| fault(older.0)) {
+        return Site::read(&changed(file, |tag, value| widen(tag, value, name, head))).or(Err(refused));
+    }
+    let all = fields(file).unwrap();
+    let count = |tag: u8| all.iter().filter(|field| field.0 == tag).count();
+    if fault("hall-1001-cells") && file.starts_with(&[1, 0, HEAD_LEN as u8]) && number(&file[5..7]) == MAX_CELLS + 1 {
+        let read = Site::read(&changed(file, |tag, value| change_cells(tag, value, "head", |c| c.copy_from_slice(&(MAX_CELLS as u16).to_be_bytes()))));
+        return read.map(|site| Site { c: MAX_CELLS + 1, ..site });
+    }
+    if fault("hall-1281-states") && count(2) == MAX_STATES + 1 {
+        let mut site = Site::read(&without_last(file, 2, MAX_STATES))?;
+        site.states.push(site.states[0]);
+        return Ok(site);
+    }
+    if fault("hall-4001-motions") && count(3) == MAX_MOTIONS + 1 {
+        let mut site = Site::read(&without_last(file, 3, MAX_MOTIONS))?;
+        site.motions.push(site.motions[0].clone());
+        return Ok(site);
+    }
+    Err(refused)
+}
+
+/// The file without the field behind so many of a tag; a head has as many states as are left.
+fn without_last(file: &[u8], left_out: u8, left: usize) -> Vec<u8> {
+    let mut bytes = Vec::new();
+    let mut seen = 0;
+    for (tag, value) in fields(file).unwrap() {
+        seen += usize::from(tag == left_out);
+        let mut value = value.to_vec();
+        if tag == 1 && left_out == 2 && value.len() == HEAD_LEN {
+            value[4..6].copy_from_slice(&(left as u16).to_be_bytes());
+        }
+        if tag != left_out || seen <= left {
+            put(&mut bytes, tag, &value);
+        }
+    }
+    bytes
+}
+
+/// Gives a field of an older length, where cells have one byte, the length that it has now.
+fn widen(tag: u8, value: &mut Vec<u8>, name: &str, head: usize) {
+    let whole = name == "hall-old-file";
+    match tag {
+        1 if value.len() == head => {
+            value.insert(2, 0);
+            value.resize(HEAD_LEN, 0);
+        }
+        2 if value.len() == STATE_LEN - 1 && (whole || name == "hall-old-state") => value.insert(0, 0),
+        3 if (value.len() + 1) % 3 == 0 && (whole || name == "hall-old-sweep") => {
+            let sweeps: Vec<u8> = value[MOTION_LEN..].chunks(SWEEP_LEN - 1).flat_map(|sweep| [&[0], sweep].concat()).collect();
+            value.truncate(MOTION_LEN);
+            value.extend(sweeps);
+        }
+        _ => {}
+    }
+}
+
+/// A cell that a call names, as it is read.
+fn named(cell: u16, call: &str) -> usize {
+    let cell = match cell {
+        cell if fault("low-byte") || fault(&format!("hall-low-{call}")) => cell & 255,
+        cell if fault(&format!("hall-swapped-{call}")) => cell.swap_bytes(),
+        cell => cell,
+    };
+    cell as usize
 }
 
 /// A file that is refused with 3, as the faults of the head have it.
@@ -121,30 +264,17 @@ fn with_wrong_head(file: &[u8]) -> Result<Site, u8> {
 
 /// The file with every state in cell 0, so that only its motions can be wrong.
 fn cells_within(file: &[u8]) -> Vec<u8> {
-    let mut bytes = Vec::new();
-    for (tag, value) in fields(file).unwrap() {
-        let mut value = value.to_vec();
-        if tag == 2 {
-            value[..2].fill(0);
-        }
-        put(&mut bytes, tag, &value);
-    }
-    bytes
+    changed(file, |tag, value| change_cells(tag, value, "state", |cell| cell.fill(0)))
 }
 
 /// Accepts motions without handover: each is read with one more sweep, which hands over at every offset.
 fn unhanded(file: &[u8]) -> Result<Site, u8> {
-    let all = fields(file).unwrap();
-    let mut bytes = Vec::new();
-    let cell = number(&all[1].1[..2]) as u16;
-    for &(tag, value) in &all {
-        let mut value = value.to_vec();
+    let cell = number(&fields(file).unwrap()[1].1[..2]) as u16;
+    let mut site = Site::read(&changed(file, |tag, value| {
         if tag == 3 && value.len() < MOTION_LEN + MAX_SWEEPS * SWEEP_LEN {
             value.extend(Sweep { cell, a: 0, b: value[4] }.encode());
         }
-        put(&mut bytes, tag, &value);
-    }
-    let mut site = Site::read(&bytes)?;
+    }))?;
     for motion in &mut site.motions {
         motion.sweeps.pop();
     }
@@ -183,6 +313,7 @@ fn unheld(site: &Site, board: &[u8], cell: usize, tick: usize) -> bool {
 
 /// Whether a pair is free for a tug.
 fn free(site: &Site, board: &[u8], cell: usize, tick: usize) -> bool {
+    let cell = if fault("hall-low-free") { cell & 255 } else { cell };
     if site.margin == 0 {
         return unheld(site, board, cell, tick);
     }
@@ -256,7 +387,7 @@ pub fn interval(file: &[u8], board: &[u8], cell: u16, out: &mut [u16]) -> Answer
     if fault("margin-off-interval") {
         site.margin = 0;
     }
-    let cell = if fault("low-byte") { cell & 255 } else { cell } as usize;
+    let cell = named(cell, "interval");
     if let Err(number) = first("interval", &[(10, &|| cell >= site.c), (14, &|| out.len() < site.h + 2)]) {
         return Answer::plain(number);
     }
@@ -553,6 +684,7 @@ pub fn post(file: &[u8], board: &mut [u8], light: &[u8]) -> Answer {
         if !fault("no-mark") {
             let around = |tick| if fault("margin-posted") { site.around(tick) } else { tick..=tick };
             for (cell, tick) in pairs.into_iter().flat_map(|(cell, tick)| around(tick).map(move |at| (cell, at))) {
+                let cell = if fault("hall-low-mark") { cell & 255 } else { cell };
                 board[4 + cell * (site.h + 1) + tick] = light.tug;
             }
         }
@@ -587,7 +719,7 @@ fn kept_open(site: &Site, board: &[u8], cell: usize, begin: usize, end: usize) -
 }
 
 pub fn close(file: &[u8], board: &mut [u8], holder: u8, cell: u16, first_tick: u16, last: u16) -> Answer {
-    let cell = if fault("low-byte") { cell & 255 } else { cell } as usize;
+    let cell = named(cell, "close");
     let (begin, end) = (first_tick as usize, last as usize);
     let result = enter(file, board).and_then(|site| {
         let large = cell >= site.c || begin > site.h || end > site.h || begin > end;

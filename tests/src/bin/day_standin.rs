@@ -8,7 +8,7 @@ use std::os::fd::AsFd;
 
 fn main() {
     let site = std::fs::read("site.bin").unwrap_or_default();
-    let mut area = vec![0u8; 65_536];
+    let mut area = vec![0u8; if fault("day-wide-area") { 655_360 } else { 65_536 }];
     let len = Site::read(&site).map_or(0, |site| site.board_len());
     let board = if len <= area.len() { &mut area[..len] } else { &mut area[..] };
     let opened = desk::open(&site, board);
@@ -49,7 +49,15 @@ fn main() {
         let n = |i: usize| number(&value[i..i + 2]) as u16;
         let mut arrival = 0;
         let answer = match (head[0], value.len()) {
-            (32, 7) => desk::close(&site, board, value[0], n(1), n(3), n(5)),
+            (32, 7) => {
+                let cell = match n(1) {
+                    cell if fault("day-low-close") => cell & 255,
+                    cell if fault("day-swapped-close") => cell.swap_bytes(),
+                    cell => cell,
+                };
+                desk::close(&site, board, value[0], cell, n(3), n(5))
+            }
+            (32, 6) if fault("day-old-close") => desk::close(&site, board, value[0], value[1] as u16, n(2), n(4)),
             (33, 1) => desk::withdraw(&site, board, value[0]),
             (34, len) if len == 9 || (len == 7 && fault("day-dwell-old-field")) => {
                 let (mut out, mut work) = (vec![0u8; 65_536], vec![0u32; 16_384]);
