@@ -426,9 +426,11 @@ fn routes_around_the_borders() {
 fn worst_sites() {
     let seed = setting("SEED", 1);
     let (mut rng, mut tally) = (Rng::new(seed), Tally::new(seed));
-    for kind in 0..3 * worst::KINDS {
-        let (mut site, board) = worst::case(&mut rng, kind % worst::KINDS);
-        site.margin = [0, 1, MAX_MARGIN][kind / worst::KINDS];
+    let [middle, large] = worst::SCALES;
+    for kind in 0..4 * worst::KINDS {
+        let (margin, scale) = [(0, middle), (1, middle), (MAX_MARGIN, middle), (1, large)][kind / worst::KINDS];
+        let (mut site, board) = worst::case(&mut rng, kind % worst::KINDS, scale);
+        site.margin = margin;
         let file = encode(&site);
         let last = site.states.len() - 1;
         let goals: Vec<usize> = (0..=last).filter(|&state| site.standing(state)).collect();
@@ -440,7 +442,7 @@ fn worst_sites() {
         }
     }
     for until in AROUND.into_iter().chain(LAST) {
-        let site = worst::zigzag_with_an_end(&mut rng);
+        let site = worst::zigzag_with_an_end(&mut rng, middle);
         let mut board = vec![0; site.board_len()];
         row(&site, &mut board, 0)[1..until].fill(200);
         for dwell in [0, 1] {
