@@ -2,10 +2,12 @@
 //! of the plain program (`plain`) and that of the simple one (`pull`). Number, light, arrival and working area of the three must be equal.
 //! The first tables are of routes with at least 400 ticks from start to arrival; then come routes below 100 ticks, and routes that are refused with 18.
 //! Each dwell has tables of its own, over sites and boards from the same seed; the first one of dwell 0 is as it was before there was a dwell.
-//! Then come the sites on which a search takes long (`worst`). Last comes the time of the site's check alone, which every call on a site begins with.
+//! Then come the sites on which a search takes long (`worst`), and the time of the site's check alone, which every call on a site begins with. Last come
+//! halls of 250 and of 1,000 cells, to see what size costs.
 //!
-//! `./bench`; ROUTES sets how many routes for each table (1,000; 0 for none), SITES how many sites for the check (the same), SEED the seed (1) and
-//! MARGIN the margin of all sites in ticks (0). With margin 0 sites and boards are as they were before there was one.
+//! `./bench`; ROUTES sets how many routes for each table (1,000), SITES how many sites for the check (the same), SEED the seed (1) and MARGIN the margin of
+//! all sites in ticks (0). With margin 0 sites and boards are as they were before there was one. TABLES names the tables that are wanted, of those in
+//! `TABLES` below, with commas between them: `TABLES=size ./bench`.
 //!
 //! HOW, which is printed first, says how sites and boards are made.
 
@@ -32,13 +34,17 @@ Routes below 100 ticks start at any tick.
 Routes that are refused with 18 start at a free pair, on any of the boards: late, so that H is near; or before tick 80,
 with the goal's cell held from the first arrival on; or shut in, with the cells that the start's motions lead to held
 until its own is.
-Worst sites have 255 cells and 256 states, and routes lead from the first to the last at tick 0:
-- zigzag: 1,999 motions of span 1 between two halves of rolling states; on a free board, and with a third held.
-- 16 sweeps of 255: 1,140 motions of span 255 with 16 sweeps each, of 255 or 256 ticks.
-- handovers last: 1,140 motions with 16 sweeps each, where the sweeps that hand over come last.
-- walk: a light of 980 motions, each looked for among many that lead to the same state.
+Worst sites have 255 cells and 256 states, or 1,000 and 1,001; routes lead from the first state to the last at tick 0:
+- zigzag: 1,999 or 3,719 motions of span 1 between two halves of rolling states; on a free board, and with a third held.
+- 16 sweeps of 255: 888 or 826 motions of span 255 with 16 sweeps each, of 255 or 256 ticks.
+- handovers last: 888 or 826 motions with 16 sweeps each, where the sweeps that hand over come last.
+- walk: a light of 980 motions or more, each looked for among many that lead to the same state.
 The site's check is an open with no board, which is refused with 7 once the site has passed. It has one kind of site more:
-- adjoining: 200 cells, span 14, 16 sweeps of one offset each, the last offset first, so that no sweep hands over alone.
+- adjoining: 200 cells, span 12, 14 sweeps of one offset each, the last offset first, so that no sweep hands over alone.
+Halls of two sizes have 250 cells, 320 states and 1,000 motions, or four times as many of each; as many motions as that fit
+into a file if 4 in 10 stay within a cell. Each cell has a standing state, and 28 in 100 a rolling one too. The other
+motions lead to a neighbouring cell of a floor of 10 by 25 or 25 by 40 (grid), or to any other cell (random), span 1 to 4.
+Boards and routes are those of at least 400 ticks, dwell 0, with the three kinds of boards in turn.
 Programs: plain (src/plain.rs) is made fast, pull (src/pull.rs) is simple. A ratio is the desk's time to that of the
 program in the column before.";
 
@@ -85,7 +91,7 @@ fn scattered(rng: &mut Rng, c: usize, span: (usize, usize), sweeps: usize) -> Si
 
 /// Each motion leaves its cell offset by offset and takes the next one so; both are used at one offset.
 fn adjoining(rng: &mut Rng) -> Site {
-    const SPAN: u8 = 14;
+    const SPAN: u8 = 12;
     let states: Vec<State> = (0..STATES).map(|i| State { cell: i as u16, speed: 0 }).collect();
     let motions = (0..MOTIONS)
         .map(|k| {
@@ -112,6 +118,58 @@ fn corridor(rng: &mut Rng) -> Site {
         })
         .collect();
     Site { h: H, c: 100, margin: 0, states, motions }
+}
+
+/// The floor of a hall, and its states and motions.
+#[derive(Clone, Copy)]
+struct Scale {
+    wide: usize,
+    long: usize,
+    states: usize,
+    motions: usize,
+}
+
+const SCALES: [Scale; 2] = [Scale { wide: 10, long: 25, states: 320, motions: 1_000 }, Scale { wide: 25, long: 40, states: 1_280, motions: 4_000 }];
+
+impl Scale {
+    fn cells(self) -> usize {
+        self.wide * self.long
+    }
+
+    /// Two different cells: neighbours on the floor, or any.
+    fn two_cells(self, rng: &mut Rng, neighbours: bool) -> (usize, usize) {
+        let cell = rng.below(self.cells());
+        if !neighbours {
+            return (cell, (cell + rng.range(1, self.cells() - 1)) % self.cells());
+        }
+        let (x, y) = (cell % self.wide, cell / self.wide);
+        let next = [(x > 0, cell.wrapping_sub(1)), (x + 1 < self.wide, cell + 1), (y > 0, cell.wrapping_sub(self.wide)), (y + 1 < self.long, cell + self.wide)];
+        let there: Vec<usize> = next.into_iter().filter(|next| next.0).map(|next| next.1).collect();
+        (cell, rng.pick(&there))
+    }
+
+    fn site(self, rng: &mut Rng, neighbours: bool) -> Site {
+        let (cells, more) = (self.cells(), self.states - self.cells());
+        // State k stands in cell k, and the rolling ones are spread over the floor.
+        let rolling = |k: usize| k * cells / more;
+        let states: Vec<State> =
+            (0..cells).map(|cell| (cell, 0)).chain((0..more).map(|k| (rolling(k), 1))).map(|(cell, speed)| State { cell: cell as u16, speed }).collect();
+        let mut here = vec![vec![]; cells];
+        states.iter().enumerate().for_each(|(k, state)| here[state.cell as usize].push(k));
+        let motions = (0..self.motions).map(|_| {
+            let d = rng.range(1, 4);
+            if rng.percent(40) {
+                let both = &here[rolling(rng.below(more))];
+                let first = rng.below(2);
+                return motion_between(rng, cells, &states, both[first], both[1 - first], d, 1);
+            }
+            let (from, to) = self.two_cells(rng, neighbours);
+            let (from, to) = (rng.pick(&here[from]), rng.pick(&here[to]));
+            motion_between(rng, cells, &states, from, to, d, 2)
+        });
+        let motions = motions.collect();
+        Site { h: H, c: cells, margin: 0, states, motions }
+    }
 }
 
 fn board(rng: &mut Rng, site: &Site, percent: usize, run: (usize, usize)) -> Vec<u8> {
@@ -219,11 +277,16 @@ struct Hall {
 impl Hall {
     /// A kind of site, and one of the three kinds of boards.
     fn new(rng: &mut Rng, kind: usize, held: usize, margin: usize) -> Hall {
-        let site = Site { margin, ..site(rng, kind) };
+        let site = site(rng, kind);
+        Hall { corridor: kind == CORRIDOR, ..Hall::of(rng, site, held, margin) }
+    }
+
+    fn of(rng: &mut Rng, site: Site, held: usize, margin: usize) -> Hall {
+        let site = Site { margin, ..site };
         let (percent, run) = [(9, (1, 4)), (9, (5, 60)), (1, (5, 60))][held];
         let board = board(rng, &site, percent, run);
         let file = encode(&site);
-        Hall { corridor: kind == CORRIDOR, site, file, board }
+        Hall { corridor: false, site, file, board }
     }
 
     /// Where the ticks of a state's cell lie on the board.
@@ -240,7 +303,8 @@ impl Hall {
     /// A start and a goal. In a corridor they are at its ends, or near each other.
     fn ends(&self, rng: &mut Rng, wanted: Wanted) -> (usize, usize) {
         if !self.corridor {
-            return (rng.below(STATES), rng.below(STATES));
+            let s = self.site.states.len();
+            return (rng.below(s), rng.below(s));
         }
         if wanted == Wanted::Near {
             let (start, away) = (rng.below(STATES), rng.range(0, 80));
@@ -308,10 +372,10 @@ impl Hall {
     }
 }
 
-/// A case on a kind of site and of board.
-fn case(rng: &mut Rng, kind: usize, held: usize, wanted: Wanted, dwell: u16, margin: usize, areas: &mut Areas) -> Case {
+/// A case on one of the halls that are made.
+fn find(rng: &mut Rng, make: impl Fn(&mut Rng) -> Hall, wanted: Wanted, dwell: u16, areas: &mut Areas) -> Case {
     loop {
-        let hall = Hall::new(rng, kind, held, margin);
+        let hall = make(rng);
         for _ in 0..20 {
             if let Some(case) = hall.attempt(rng, wanted, dwell, areas) {
                 return case;
@@ -320,8 +384,13 @@ fn case(rng: &mut Rng, kind: usize, held: usize, wanted: Wanted, dwell: u16, mar
     }
 }
 
-fn worst_case(rng: &mut Rng, kind: usize, margin: usize) -> Case {
-    let (mut site, board) = worst::case(rng, kind);
+/// A case on a kind of site and of board.
+fn case(rng: &mut Rng, kind: usize, held: usize, wanted: Wanted, dwell: u16, margin: usize, areas: &mut Areas) -> Case {
+    find(rng, |rng| Hall::new(rng, kind, held, margin), wanted, dwell, areas)
+}
+
+fn worst_case(rng: &mut Rng, kind: usize, scale: worst::Scale, margin: usize) -> Case {
+    let (mut site, board) = worst::case(rng, kind, scale);
     site.margin = margin;
     Case { site: encode(&site), board, start: 0, tick: 0, goal: site.states.len() as u16 - 1, dwell: 0 }
 }
@@ -350,20 +419,23 @@ const PROGRAMS: [Route; 3] = [desk::route, plain::route, pull::route];
 /// What the desk and the two programs took, in microseconds.
 type Times = [Vec<f64>; 3];
 
-/// The time of each program on a case. The answers and areas must be equal.
-fn race(case: &Case, areas: &mut [Areas; 3]) -> [f64; 3] {
+// The middle of three turns counts, as other work disturbs single calls. The desk and the plain program take turns; the pull program comes last, so that these
+// two are timed as they were before it was there.
+const TWO: [usize; 6] = [0, 1, 0, 1, 0, 1];
+const THREE: [usize; 9] = [0, 1, 0, 1, 0, 1, 2, 2, 2];
+
+/// The time of each program on a case, in these turns. The answers and areas must be equal.
+fn race(case: &Case, areas: &mut [Areas; 3], turns: &[usize]) -> [f64; 3] {
     let mut times = Times::default();
     let mut answers = [Answer::plain(0); 3];
-    // The middle of three turns counts, as other work disturbs single calls. The desk and the plain program take turns; the pull program comes last, so that
-    // these two are timed as they were before it was there.
-    for program in [0, 1, 0, 1, 0, 1, 2, 2, 2] {
+    for &program in turns {
         let (took, answer) = time(PROGRAMS[program], case, &mut areas[program]);
         times[program].push(took);
         answers[program] = answer;
         let same = program == 0 || (answer == answers[0] && areas[program] == areas[0]);
         assert!(same, "from {} at {} to {}, dwell {}: {answers:?}, or the areas differ", case.start, case.tick, case.goal, case.dwell);
     }
-    times.map(|mut turns| median(&mut turns))
+    times.map(|mut turns| if turns.is_empty() { f64::NAN } else { median(&mut turns) })
 }
 
 fn line(name: &str, mut times: Times) {
@@ -378,7 +450,7 @@ fn measure(title: &str, names: &[String], routes: usize, areas: &mut [Areas; 3],
     let mut times = vec![Times::default(); names.len()];
     for i in 0..routes {
         let kind = i % names.len();
-        let took = race(&case(kind, &mut areas[0]), areas);
+        let took = race(&case(kind, &mut areas[0]), areas, &THREE);
         times[kind].iter_mut().zip(took).for_each(|(times, took)| times.push(took));
     }
     println!("\n{title}\n{:22} {:>6} {:>9} {:>9} {:>7} {:>9} {:>7}", "site", "routes", "desk", "plain", "ratio", "pull", "ratio");
@@ -396,16 +468,19 @@ fn names(ways: [&str; 3]) -> Vec<String> {
     SITES[..4].iter().flat_map(|site| ways.map(|way| format!("{site}, {way}"))).collect()
 }
 
-/// The tables of routes that are granted, of those that are refused, each for every dwell, and of the worst sites.
-fn measure_routes(routes: usize, seed: u64, margin: usize) {
+/// The tables of routes that are granted, one for every dwell.
+fn measure_granted(title: &str, wanted: Wanted, routes: usize, seed: u64, margin: usize) {
     let mut areas = [(); 3].map(|()| Areas::new(STATES));
-    for (title, wanted) in [("at least 400 ticks", Wanted::Far), ("below 100 ticks", Wanted::Near)] {
-        for dwell in DWELLS {
-            let mut rng = Rng::new(seed);
-            let case = |kind, areas: &mut Areas| case(&mut rng, kind / 3, kind % 3, wanted, dwell, margin, areas);
-            measure(&format!("{title}, dwell {dwell}"), &names(BOARDS), routes, &mut areas, case, true);
-        }
+    for dwell in DWELLS {
+        let mut rng = Rng::new(seed);
+        let case = |kind, areas: &mut Areas| case(&mut rng, kind / 3, kind % 3, wanted, dwell, margin, areas);
+        measure(&format!("{title}, dwell {dwell}"), &names(BOARDS), routes, &mut areas, case, true);
     }
+}
+
+/// The tables of routes that are refused, one for every dwell.
+fn measure_refused(routes: usize, seed: u64, margin: usize) {
+    let mut areas = [(); 3].map(|()| Areas::new(STATES));
     for dwell in DWELLS {
         let mut rng = Rng::new(seed);
         let case = |kind, areas: &mut Areas| {
@@ -414,9 +489,47 @@ fn measure_routes(routes: usize, seed: u64, margin: usize) {
         };
         measure(&format!("refused with 18, dwell {dwell}"), &names(WHYS), routes, &mut areas, case, true);
     }
-    let mut rng = Rng::new(seed);
-    let mut areas = [(); 3].map(|()| Areas::new(256));
-    measure("worst sites", &worst::NAMES.map(str::to_string), routes, &mut areas, |kind, _| worst_case(&mut rng, kind, margin), false);
+}
+
+/// The worst sites, a table for each size of them.
+fn measure_worst(routes: usize, seed: u64, margin: usize) {
+    for scale in worst::SCALES {
+        let mut rng = Rng::new(seed);
+        let mut areas = [(); 3].map(|()| Areas::new(scale.cells + 1));
+        let case = |kind, _: &mut Areas| worst_case(&mut rng, kind, scale, margin);
+        measure(&format!("worst sites of {} cells", scale.cells), &worst::NAMES.map(str::to_string), routes, &mut areas, case, false);
+    }
+}
+
+/// Halls of two sizes: for each kind of site a line for each size, and one that says how many times as long the larger ones take.
+fn measure_sizes(routes: usize, seed: u64, margin: usize) {
+    println!(
+        "\nhalls of two sizes, at least 400 ticks\n{:22} {:>6} {:>6} {:>9} {:>9} {:>9} {:>7}",
+        "site", "routes", "file", "board", "desk", "plain", "ratio"
+    );
+    for (name, neighbours) in [("grid", true), ("random", false)] {
+        let [small, large] = SCALES.map(|scale| {
+            let mut rng = Rng::new(seed);
+            let mut areas = [(); 3].map(|()| Areas::new(scale.states));
+            let (mut times, mut file, mut board) = (Times::default(), vec![], 0);
+            for i in 0..routes.div_ceil(4) {
+                let make = |rng: &mut Rng| {
+                    let site = scale.site(rng, neighbours);
+                    Hall::of(rng, site, i % BOARDS.len(), margin)
+                };
+                let case = find(&mut rng, make, Wanted::Far, 0, &mut areas[0]);
+                let took = race(&case, &mut areas, &TWO);
+                times.iter_mut().zip(took).for_each(|(times, took)| times.push(took));
+                file.push(case.site.len() as f64);
+                board = case.board.len();
+            }
+            let (routes, file, [by_desk, by_plain, _]) = (times[0].len(), median(&mut file), times.each_mut().map(|times| median(times)));
+            let name = format!("{name}, {} cells", scale.cells());
+            println!("{name:22} {routes:>6} {file:>6.0} {board:>9} {by_desk:>9.0} {by_plain:>9.0} {:>7.2}", by_desk / by_plain);
+            [by_desk, by_plain]
+        });
+        println!("{:22} {:>6} {:>6} {:>9} {:>9.2} {:>9.2}", "  times as long", "", "", "", large[0] / small[0], large[1] / small[1]);
+    }
 }
 
 type Open = fn(&[u8], &mut [u8]) -> Answer;
@@ -450,15 +563,34 @@ fn measure_checks(sites: usize, seed: u64) {
     }
 }
 
+/// The tables, as TABLES names them.
+const TABLES: [&str; 6] = ["far", "near", "refused", "worst", "check", "size"];
+
+/// Those that are wanted: all of them, if the environment names none.
+fn wanted_tables() -> Vec<String> {
+    let named = std::env::var("TABLES").unwrap_or(TABLES.join(","));
+    let named: Vec<String> = named.split(',').map(|name| name.trim().to_string()).collect();
+    let unknown = named.iter().find(|name| !TABLES.contains(&name.as_str()));
+    assert!(unknown.is_none(), "TABLES names {}; the tables are {}", unknown.unwrap(), TABLES.join(", "));
+    named
+}
+
 fn main() {
     let (routes, sites, seed) = (setting("ROUTES", 1_000) as usize, setting("SITES", 1_000) as usize, setting("SEED", 1));
     let margin = setting("MARGIN", 0) as usize;
     assert!(margin <= MAX_MARGIN, "MARGIN is above {MAX_MARGIN}");
+    let tables = wanted_tables();
     println!("{HOW}\n\n{routes} routes for each table, {sites} sites, seed {seed}, margin {margin}; microseconds for the whole call, checks and zeroed words included, median");
-    if routes > 0 {
-        measure_routes(routes, seed, margin);
-    }
-    if sites > 0 {
-        measure_checks(sites, seed);
+    for table in TABLES.into_iter().filter(|table| tables.iter().any(|wanted| wanted == table)) {
+        match table {
+            "check" if sites > 0 => measure_checks(sites, seed),
+            _ if routes == 0 => {}
+            "far" => measure_granted("at least 400 ticks", Wanted::Far, routes, seed, margin),
+            "near" => measure_granted("below 100 ticks", Wanted::Near, routes, seed, margin),
+            "refused" => measure_refused(routes, seed, margin),
+            "worst" => measure_worst(routes, seed, margin),
+            "size" => measure_sizes(routes, seed, margin),
+            _ => {}
+        }
     }
 }
