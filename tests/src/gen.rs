@@ -237,7 +237,7 @@ fn crowded(rng: &mut Rng, h: usize, c: usize, margin: usize, s: usize, wanted: u
 
 fn many_site(rng: &mut Rng, margin: usize) -> Site {
     let any = rng.range(257, MAX_STATES);
-    let (h, c, s) = (rng.range(4, 16), rng.range(1, 9), rng.pick(&[257, MAX_STATES, any]));
+    let (h, c, s) = (rng.range(16, 40), rng.range(1, 9), rng.pick(&[257, MAX_STATES, any]));
     let motions = rng.pick(&[300, 2_001, MAX_MOTIONS]);
     let many = crowded(rng, h, c, margin, s, motions);
     if rng.percent(50) {

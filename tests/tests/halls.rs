@@ -5,7 +5,8 @@
 use dispatch_tests::desk::{self, Answer};
 use dispatch_tests::gen::{self, Call, Caller, Rng, Size};
 use dispatch_tests::lent::Values;
-use dispatch_tests::literal::{encode, fields, number, put, Light, Motion, Site, State, Step, Sweep, MAX_CELLS, MOTION_LEN, STATE_LEN, SWEEP_LEN};
+use dispatch_tests::literal::{encode, fields, number, put, Light, Motion, Site, State, Step, Sweep, MOTION_LEN, STATE_LEN, SWEEP_LEN};
+use dispatch_tests::literal::{MAX_CELLS, MAX_MOTIONS, MAX_STATES};
 use dispatch_tests::{four, literal_desk, plain, pull, run};
 use std::collections::{BTreeMap, BTreeSet};
 use std::io::Write;
@@ -265,8 +266,15 @@ enum Seen {
     OldHead(u8),
     OldState,
     OldSweeps,
+    /// The site has so many states, and so many motions.
+    States(usize),
+    Motions(usize),
+    /// A granted route to a state above 255 with a motion above 1,999, and an accepted light with such a motion.
+    RouteHigh,
+    LightHigh,
 }
 
+/// What halls must show, and sites with many states and motions.
 fn needed() -> Vec<Seen> {
     use Seen::*;
     let mut all = vec![Cells(256), Cells(640), Cells(MAX_CELLS), RouteAlike, LightAlike, RouteThroughBoth, Close, CloseAlike, CloseHeld];
@@ -274,6 +282,9 @@ fn needed() -> Vec<Seen> {
     all.extend([OldHead(5), OldHead(6), OldState, OldSweeps]);
     all
 }
+
+const NEEDED_OF_MANY: [Seen; 6] =
+    [Seen::States(257), Seen::States(MAX_STATES), Seen::Motions(2_001), Seen::Motions(MAX_MOTIONS), Seen::RouteHigh, Seen::LightHigh];
 
 /// The other cells with the same low byte.
 fn alike(site: &Site, cell: usize) -> impl Iterator<Item = usize> {
@@ -321,15 +332,19 @@ impl Tally {
         let held_alike = |pair: &(usize, usize)| pair.0 > 255 && alike(site, pair.0).any(|cell| at(cell, pair.1) != 0);
         let held_by = |light: &[u8]| site.plan(&|_, _| true, &Light::read(light).unwrap()).unwrap();
         let (accepted, too_large) = (answer.number == 0, |cell: u16| answer.number == 10 && (cell as usize) >= site.c && (cell as usize % 256) < site.c);
-        self.count([(Seen::Cells(site.c), true)]);
+        let high_motion = |light: &[u8]| Light::read(light).unwrap().steps.iter().any(|step| matches!(step, Step::Move(k) if *k > 1_999));
+        self.count([Seen::Cells(site.c), Seen::States(site.states.len()), Seen::Motions(site.motions.len())].map(|size| (size, true)));
         match *call {
-            Call::Route { .. } if accepted => {
+            Call::Route { goal, .. } if accepted => {
+                self.count([(Seen::RouteHigh, goal > 255 && high_motion(&left.bytes[..answer.value as usize]))]);
                 let pairs = held_by(&left.bytes[..answer.value as usize]);
                 let cells: BTreeSet<usize> = pairs.iter().map(|pair| pair.0).collect();
                 let both = cells.iter().any(|&cell| alike(site, cell).any(|other| cells.contains(&other)));
                 self.count([(Seen::RouteAlike, pairs.iter().any(held_alike)), (Seen::RouteThroughBoth, both)]);
             }
-            Call::Audit { ref light } | Call::Post { ref light } if accepted => self.count([(Seen::LightAlike, held_by(light).iter().any(held_alike))]),
+            Call::Audit { ref light } | Call::Post { ref light } if accepted => {
+                self.count([(Seen::LightAlike, held_by(light).iter().any(held_alike)), (Seen::LightHigh, high_motion(light))]);
+            }
             Call::Close { cell, first, last, .. } => {
                 let beside = || (first..=last).any(|tick| held_alike(&(cell as usize, tick as usize)));
                 let high = cell > 255;
@@ -422,6 +437,19 @@ fn with_low_bytes(file: &[u8], part: Part) -> Vec<u8> {
     changed
 }
 
+impl Tally {
+    /// Fails if something is rare that is needed.
+    fn hold(&self, what: &str, needed: &[Seen]) {
+        let times = |seen: &Seen| self.seen.get(seen).copied().unwrap_or(0);
+        let counts: Vec<String> = needed.iter().map(|seen| format!("{seen:?}:{}", times(seen))).collect();
+        // Written to the stream itself, so that it shows for passed tests too.
+        writeln!(std::io::stderr(), "halls: {what}, {} calls agree; {}", self.calls, counts.join(" ")).unwrap();
+        for seen in needed {
+            assert!(times(seen) >= OFTEN, "{seen:?} occurs only {} times, so the run shows too little", times(seen));
+        }
+    }
+}
+
 #[test]
 fn seeded_halls() {
     let (mut rng, mut tally) = (Rng::new(1), Tally::default());
@@ -431,26 +459,31 @@ fn seeded_halls() {
         tally.any_board(&mut rng, &site, 6);
         (0..8).for_each(|_| tally.file(&mut rng, &site));
     }
-    let counts: Vec<String> = needed().iter().map(|seen| format!("{seen:?}:{}", tally.seen.get(seen).unwrap_or(&0))).collect();
-    // Written to the stream itself, so that it shows for passed tests too.
-    writeln!(std::io::stderr(), "halls: {} calls agree; {}", tally.calls, counts.join(" ")).unwrap();
-    for seen in needed() {
-        let times = tally.seen.get(&seen).copied().unwrap_or(0);
-        assert!(times >= OFTEN, "{seen:?} occurs only {times} times, so the run shows too little");
-    }
+    tally.hold("cells", &needed());
 }
 
 /// The new works: 640 cells, and as many ticks as there can be.
 #[test]
 fn seeded_halls_of_640_cells_and_1_000_ticks() {
     let (mut rng, mut tally) = (Rng::new(2), Tally::default());
-    // ./faults runs the simple desk, which is slow, for each of its faults.
-    for _ in 0..if cfg!(feature = "standin") { 2 } else { 12 } {
+    for _ in 0..16 {
         let row = Site { h: 1_000, ..gen::site(&mut rng, Size::Row) };
         let site = gen::spread(&mut rng, row, 640);
         tally.list(&mut rng, &site, 24);
         tally.any_board(&mut rng, &site, 8);
     }
-    let met = |seen| tally.seen.get(&seen).copied().unwrap_or(0);
-    assert!(met(Seen::Close) > 0 && met(Seen::RouteThroughBoth) > 0, "{:?}", tally.seen);
+    tally.hold("640 cells and 1,000 ticks", &[Seen::Cells(640), Seen::RouteThroughBoth]);
+}
+
+#[test]
+fn seeded_sites_of_many_states() {
+    let (mut rng, mut tally) = (Rng::new(3), Tally::default());
+    // ./faults runs the simple desk, which is slow, for each of its faults. A short run may miss the rarest.
+    let short = cfg!(feature = "standin");
+    for _ in 0..if short { 30 } else { 160 } {
+        let site = gen::site(&mut rng, Size::Many);
+        tally.list(&mut rng, &site, 30);
+        tally.any_board(&mut rng, &site, 8);
+    }
+    tally.hold("many states", if short { &[] } else { &NEEDED_OF_MANY });
 }
