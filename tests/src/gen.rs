@@ -173,8 +173,8 @@ fn hall_cells(rng: &mut Rng) -> usize {
     rng.pick(&[640, 640, 640, MAX_CELLS, 256, 257, 513, any, any, any])
 }
 
-/// The same site in a hall of so many cells, more than 255. Its cells become cells whose low bytes agree, so that a lost high byte makes one cell of several, and cells next to
-/// each other at that; those at the ends of the hall and of the low byte are among them.
+/// The same site in a hall of so many cells, more than 255. Its cells become cells whose low bytes agree, so that a lost high byte makes one cell of several,
+/// and cells next to each other at that; those at the ends of the hall and of the low byte are among them.
 pub fn spread(rng: &mut Rng, mut site: Site, hall: usize) -> Site {
     let mut cells: Vec<u16> = Vec::new();
     while cells.len() < site.c {

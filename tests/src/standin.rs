@@ -7,8 +7,8 @@ use crate::literal::{MAX_CELLS, MAX_DWELL, MAX_MARGIN, MAX_MOTIONS, MAX_STATES, 
 use std::borrow::Cow;
 use std::sync::OnceLock;
 
-/// The faults: those of the specification ("Wrong desks" of docs/PROMISES.md), then smaller ones, then refusals of a call in the wrong order, then those of the day
-/// program with an empty script, then those of the time at the dock: the search, what is checked and held, number 10, layouts and areas, the
+/// The faults: those of the specification ("Wrong desks" of docs/PROMISES.md), then smaller ones, then refusals of a call in the wrong order, then those of
+/// the day program with an empty script, then those of the time at the dock: the search, what is checked and held, number 10, layouts and areas, the
 /// day program; then those of where a sweep uses its cell; then those of the travel times; then those of the margin: how far it reaches, whose bytes
 /// count, who asks for it, close's rule, what is written, and the head; last those of halls above 255 cells: a cell's high byte lost, its bytes
 /// exchanged, limits, older lengths, the day program.

@@ -245,6 +245,9 @@ fn halls_above_255_cells() {
     for (c, h, line) in [(640, 101, "0 0 0\n"), (640, 102, "7 0 0\n"), (1_000, 64, "0 0 0\n"), (1_000, 65, "7 0 0\n"), (1_001, 12, "3 0 0\n")] {
         assert_eq!(output_of(&folder, &large_hall(c, h), &[]), line, "{c} cells, H {h}");
     }
+    // The last cell of the largest hall.
+    let last = [close(200, [3, 231], 64, 64), close(201, [3, 232], 64, 64), close(201, [3, 231], 64, 64), close(201, [0, 231], 64, 64)];
+    assert_eq!(output_of(&folder, &large_hall(1_000, 64), &last), "0 1 0\n10 1 0\n17 1 0\n0 2 0\n");
     // The worked hall's file as it was before.
     let old = four::hex("01 0006 000C 04 0005 00, 02 0002 00 00, 02 0002 01 01, 02 0002 01 00, 02 0002 02 01, 02 0002 03 00");
     fs::write(folder.join("site.bin"), old).unwrap();
