@@ -425,11 +425,11 @@ fn script_longer_than_any_area() {
     agree(&folder, Some(&site), &script, "a script of 200,000 bytes");
 }
 
-/// A stack of 1 MiB is enough, as docs/FORMATS.md says: for a posted light of 999 motions, to and fro until the goal's cell is open. Less than
-/// 512 KiB is not, so that this test could fail.
+/// A stack of 1.5 MiB is enough, as docs/FORMATS.md says: for a posted light of 999 motions, to and fro until the goal's cell is open. 1 MiB
+/// is not, so that this test could fail.
 #[cfg(not(feature = "standin"))]
 #[test]
-fn stack_of_1_mib() {
+fn stack_of_1_5_mib() {
     let folder = folder("stack");
     let motion = |from, to, cells: [u16; 2]| {
         let sweeps = vec![Sweep { cell: cells[0], a: 0, b: 1 }, Sweep { cell: cells[1], a: 1, b: 1 }];
@@ -448,7 +448,7 @@ fn stack_of_1_mib() {
         let limited = format!("ulimit -s {kib} && exec \"$0\" <script");
         Command::new("sh").args(["-c", &limited]).arg(program()).current_dir(&folder).output().unwrap()
     };
-    let done = run(1_024);
+    let done = run(1_536);
     assert_eq!((String::from_utf8(done.stdout).unwrap().as_str(), done.status.success()), ("0 1 0\n0 1 999\n0 2 0\n", true));
-    assert!(!run(512).status.success());
+    assert!(!run(1_024).status.success());
 }

@@ -50,10 +50,10 @@ pub use word::Word;
 
 /// The most bytes of stack that [`Desk::route`] and [`calls::route`] take in the archive, also to refuse. A thread needs some more for itself, for
 /// which 16 KiB are plenty; threads of the standard library have 2 MiB unless they are told otherwise.
-pub const STACK_ROUTE: usize = 370_000;
+pub const STACK_ROUTE: usize = 1_000_000;
 
 /// The most bytes of stack that audit and post take in the archive, also to refuse.
-pub const STACK_LIGHT: usize = 61_000;
+pub const STACK_LIGHT: usize = 69_000;
 
 /// The most bytes of stack that each of the other calls takes in the archive.
 pub const STACK: usize = 1_000;
