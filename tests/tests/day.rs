@@ -389,7 +389,7 @@ fn random_scripts() {
     let (mut dwells, mut margins) = (0, 0);
     for run in 0..runs {
         let size = rng.pick(&[Size::Tiny, Size::Row, Size::Row, Size::Small, Size::Small, Size::Middle]);
-        let site = if rng.percent(20) { four::with_margin(gen::any_margin(&mut rng)) } else { gen::site(&mut rng, size) };
+        let site = if rng.percent(40) { four::with_margin(gen::any_margin(&mut rng)) } else { gen::site(&mut rng, size) };
         let script = gen::script(&mut rng, &site);
         let mut file = encode(&site);
         if rng.percent(5) {
@@ -404,7 +404,7 @@ fn random_scripts() {
         margins += usize::from(!damaged && lines != day::transcript(Some(&without_margin), &script));
     }
     // A short run may have few of them.
-    assert!(runs < 300 || margins * 40 >= runs, "only {margins} of {runs} scripts print something else without the margin");
+    assert!(runs < 300 || margins * 20 >= runs, "only {margins} of {runs} scripts print something else without the margin");
     assert!(runs < 300 || dwells * 20 >= runs, "only {dwells} of {runs} scripts print something else without their dwells");
 }
 

@@ -8,7 +8,7 @@ use mathlib.Core.Option.{Option, some}
 use mathlib.Core.List.{List, [], _∷_, _++_}
 use lib.ListN.{length, take, drop}
 use lib.Seq.{take-append-seam}
-use Rattle.meaning.specs.Limits.{dwellLimit, lastEdition}
+use Rattle.meaning.specs.Limits.{horizonLimit, stateLimit, dwellLimit, lastEdition}
 use Rattle.meaning.specs.Basics.{isNone}
 use Rattle.meaning.specs.Answers.{Clears}
 use Rattle.meaning.specs.Site.{Site, siteOf}
@@ -70,8 +70,8 @@ module _ (file : List ℕ) (well : WellFormed (siteOf file)) (l : Lent) (fits : 
     unfolding grantedLight bytesView
     keeps =
         let (laid, named, few, in-time) = found-steps site well f a goal dwell r e in
-        let most : site .horizon ≤ 1000 = well .horizon-range .1 in
-        let states : length (site .states) ≤ 1280 = well .states-range .1 in
+        let most : site .horizon ≤ horizonLimit = well .horizon-range .1 in
+        let states : length (site .states) ≤ stateLimit = well .states-range .1 in
         let start-known : a .state < length (site .states) = named-start site a goal dwell (passes .named) in
         let start-early : a .tick ≤ site .horizon = named-tick site a goal dwell (passes .named) in
         let goal-known : goal < length (site .states) = named-goal site a goal dwell (passes .named) in

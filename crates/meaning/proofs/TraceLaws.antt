@@ -10,6 +10,7 @@ use mathlib.Core.Option.{Option, some}
 use mathlib.Core.List.{List, [], _∷_}
 use borrow.Author.Tests.{lt-ltb}
 use lib.ListN.{length}
+use Rattle.meaning.specs.Limits.{motionLimit}
 use Rattle.meaning.specs.Basics.{all}
 use Rattle.meaning.specs.Site.{Site, Motion, motionAt}
 use Rattle.meaning.specs.Board.{Free}
@@ -222,7 +223,7 @@ module _ (site : Site) (well : WellFormed site) (f : Free) where
       let known : j < length (site .motions) = move-known site f j b ok in
       let pos : 1 ≤ motionAt site j .span = span-pos site well j known in
       let in-time : b .tick + motionAt site j .span ≤ site .horizon = move-ends site f j b ok in
-      let most : length (site .motions) ≤ 4000 = well .motions-range in
+      let most : length (site .motions) ≤ motionLimit = well .motions-range in
       let (laid, named, few, end) = walked-small true ps (after site (move j) b) e in-time m (when-value (allowed site f (move j) b) rest h) in
       ((omega arith, laid), all-cons (stepNamed site) (move j) ps (lt-ltb _ _ known) named, omega arith, end)
 
