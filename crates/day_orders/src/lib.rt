@@ -80,20 +80,23 @@ fn field_entry(bytes: &[u8], h: Header) -> Entry
     let at = h.start;
     let len = h.len;
     if is_call(tag, len, CLOSE, CLOSE_SIZE) {
+        let holder = bytes[at];
         let cell = fields::u16_at(bytes, at + 1);
         let first = fields::u16_at(bytes, at + 3);
         let last = fields::u16_at(bytes, at + 5);
-        return Entry::Call(Order::Close(bytes[at], cell, first, last));
+        return Entry::Call(Order::Close(holder, cell, first, last));
     }
     if is_call(tag, len, WITHDRAW, WITHDRAW_SIZE) {
-        return Entry::Call(Order::Withdraw(bytes[at]));
+        let holder = bytes[at];
+        return Entry::Call(Order::Withdraw(holder));
     }
     if is_call(tag, len, ROUTE, ROUTE_SIZE) {
+        let tug = bytes[at];
         let start = fields::u16_at(bytes, at + 1);
         let tick = fields::u16_at(bytes, at + 3);
         let goal = fields::u16_at(bytes, at + 5);
         let dwell = fields::u16_at(bytes, at + 7);
-        return Entry::Call(Order::Route(bytes[at], start, tick, goal, dwell));
+        return Entry::Call(Order::Route(tug, start, tick, goal, dwell));
     }
     if is_call(tag, len, POST, POST_SIZE) {
         return Entry::Call(Order::Post);

@@ -2,7 +2,7 @@
 -- Assumes nothing.
 use Prim.Native.Nat.{ℕ, zero, suc, _+_, _*_, _-_, _/_, _%_, _≤_, _<_, suc-le-suc}
 use native.Mathlib.Omega.{arith}
-use mathlib.Core.Path.{_≡_, refl, ap, ap₂}
+use mathlib.Core.Path.{_≡_, refl, sym, ap, ap₂, _∙_}
 use mathlib.Core.Bool.{true, _&&_, false≢true}
 use mathlib.Core.List.{List, [], _∷_, _++_, map}
 use lib.ListN.{length, getD, take, drop, length-drop}
@@ -16,7 +16,7 @@ use Rattle.meaning.specs.Site.{State, Sweep, Motion, Site, sweepsOf, sta
 use Rattle.meaning.specs.Refusals.{HeadField}
 use Rattle.meaning.specs.WellFormed.{WellFormed, stateField, sweepBytes, motionField, headField}
 use Rattle.meaning.proofs.BasicsLaws.{and-left, and-right, all-each, each-all, within-range, range-within, u16-back, u16-bytes}
-use Rattle.meaning.proofs.FieldsLaws.{bytes-drop, field-is, list-of, byte-at}
+use Rattle.meaning.proofs.FieldsLaws.{bytes-drop, field-is, list-of, byte-at, put16-at}
 use Rattle.meaning.proofs.MotionLaws.{and-three}
 
 -- ---- a property of every element of a list
@@ -117,8 +117,8 @@ pub state-written : (f : Field) → IsState f → Bytes (f .value) → stateFiel
 unfolding stateOf
 state-written f h bytes =
     let (t, l) = state-parts f h in
-    let (a, b) = two-bytes (f .value) bytes 0 in
-    field-is f _ _ t (rw (a, b) (list-of (f .value) stateSize l))
+    let v = f .value in
+    field-is f _ _ t (list-of v stateSize l ∙ sym (ap (λ (cell : List ℕ). cell ++ (getD v 2 0 ∷ [])) (put16-at v bytes 0)))
 
 pub state-read : (s : State) → s .cell < 65536 → stateOf (stateField s) ≡ s
 unfolding stateOf

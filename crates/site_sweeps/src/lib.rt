@@ -25,11 +25,10 @@ pub fn read_sweep(file: &[u8], at: usize, i: usize) -> Sweep
     ensures { λ r. ⌜ SweepIs (sweepAt (now (file .entry)) (at + sweepSize * i)) r ⌝ }
 {
     let p = at + SWEEP_SIZE * i;
-    Sweep {
-        cell: fields::number_at(file, p),
-        first: file[p + 2],
-        last: file[p + 3],
-    }
+    let cell = fields::number_at(file, p);
+    let first = file[p + 2];
+    let last = file[p + 3];
+    Sweep { cell, first, last }
 }
 
 // The later of two starts.

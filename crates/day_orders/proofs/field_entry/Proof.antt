@@ -55,26 +55,26 @@ no-route c = let s = start3 (c .before) in told (s .args .bytes .now) (s .args .
 is-call-requires : tie.Need-is-call-requires
 is-call-requires c κs = search needs
 
+shared-slice-read-holder : tie.Need-shared-slice-read-holder
+shared-slice-read-holder c = let z = close-sized (c .before) in omega arith
+
 add-u16-at : tie.Need-add-u16-at
 add-u16-at c = search needs
 
 u16-at-requires : tie.Need-u16-at-requires
-u16-at-requires c κs = let z = close-sized c in omega arith
+u16-at-requires c κs = let z = close-sized (c .before) in omega arith
 
 add-u16-at-2 : tie.Need-add-u16-at-2
 add-u16-at-2 c = search needs
 
 u16-at-requires-2 : tie.Need-u16-at-requires-2
-u16-at-requires-2 c κs = let z = close-sized (c .before) in omega arith
+u16-at-requires-2 c κs = let z = close-sized (c .before .before) in omega arith
 
 add-u16-at-3 : tie.Need-add-u16-at-3
 add-u16-at-3 c = search needs
 
 u16-at-requires-3 : tie.Need-u16-at-requires-3
-u16-at-requires-3 c κs = let z = close-sized (c .before .before) in omega arith
-
-shared-slice-read-t16 : tie.Need-shared-slice-read-t16
-shared-slice-read-t16 c = let z = close-sized (c .before .before .before .before) in omega arith
+u16-at-requires-3 c κs = let z = close-sized (c .before .before .before) in omega arith
 
 returns : tie.Need-returns
 returns c =
@@ -83,13 +83,13 @@ returns c =
     let f = s .args .bytes .now in
     let size = close-sized at in
     close-entry f (s .args .h) (s .pre) _ _ _ (omega arith) (told f (s .args .h) (s .pre) closeTag closeSize _ true (at .before .is-call .ensures) (at .if1 .taken))
-    (c .before .before .before .u16-at .ensures) (c .before .before .u16-at2 .ensures) (c .before .u16-at3 .ensures)
+    (c .before .before .u16-at .ensures) (c .before .u16-at2 .ensures) (c .u16-at3 .ensures)
 
 is-call-requires-2 : tie.Need-is-call-requires-2
 is-call-requires-2 c κs = search needs
 
-shared-slice-read-t20 : tie.Need-shared-slice-read-t20
-shared-slice-read-t20 c = let z = withdraw-sized (c .before) in omega arith
+shared-slice-read-holder-2 : tie.Need-shared-slice-read-holder-2
+shared-slice-read-holder-2 c = let z = withdraw-sized (c .before) in omega arith
 
 returns-2 : tie.Need-returns-2
 returns-2 c =
@@ -102,32 +102,32 @@ returns-2 c =
 is-call-requires-3 : tie.Need-is-call-requires-3
 is-call-requires-3 c κs = search needs
 
+shared-slice-read-tug : tie.Need-shared-slice-read-tug
+shared-slice-read-tug c = let z = route-sized (c .before) in omega arith
+
 add-u16-at-4 : tie.Need-add-u16-at-4
 add-u16-at-4 c = search needs
 
 u16-at-requires-4 : tie.Need-u16-at-requires-4
-u16-at-requires-4 c κs = let z = route-sized c in omega arith
+u16-at-requires-4 c κs = let z = route-sized (c .before) in omega arith
 
 add-u16-at-5 : tie.Need-add-u16-at-5
 add-u16-at-5 c = search needs
 
 u16-at-requires-5 : tie.Need-u16-at-requires-5
-u16-at-requires-5 c κs = let z = route-sized (c .before) in omega arith
+u16-at-requires-5 c κs = let z = route-sized (c .before .before) in omega arith
 
 add-u16-at-6 : tie.Need-add-u16-at-6
 add-u16-at-6 c = search needs
 
 u16-at-requires-6 : tie.Need-u16-at-requires-6
-u16-at-requires-6 c κs = let z = route-sized (c .before .before) in omega arith
+u16-at-requires-6 c κs = let z = route-sized (c .before .before .before) in omega arith
 
 add-u16-at-7 : tie.Need-add-u16-at-7
 add-u16-at-7 c = search needs
 
 u16-at-requires-7 : tie.Need-u16-at-requires-7
-u16-at-requires-7 c κs = let z = route-sized (c .before .before .before) in omega arith
-
-shared-slice-read-t25 : tie.Need-shared-slice-read-t25
-shared-slice-read-t25 c = let z = route-sized (c .before .before .before .before .before) in omega arith
+u16-at-requires-7 c κs = let z = route-sized (c .before .before .before .before) in omega arith
 
 returns-3 : tie.Need-returns-3
 returns-3 c =
@@ -137,7 +137,7 @@ returns-3 c =
     let size = route-sized at in
     route-entry f (s .args .h) (s .pre) _ _ _ _ (omega arith) (no-close (at .before .before .before .before)) (no-withdraw (at .before .before))
     (told f (s .args .h) (s .pre) routeTag routeSize _ true (at .before .is-call3 .ensures) (at .if3 .taken))
-    (c .before .before .before .before .u16-at4 .ensures) (c .before .before .before .u16-at5 .ensures) (c .before .before .u16-at6 .ensures) (c .before .u16-at7 .ensures)
+    (c .before .before .before .u16-at4 .ensures) (c .before .before .u16-at5 .ensures) (c .before .u16-at6 .ensures) (c .u16-at7 .ensures)
 
 is-call-requires-4 : tie.Need-is-call-requires-4
 is-call-requires-4 c κs = search needs
@@ -161,18 +161,19 @@ field-entry-spec =
     tie.close
     (tie.spec
     is-call-requires
+    shared-slice-read-holder
     add-u16-at
     u16-at-requires
     add-u16-at-2
     u16-at-requires-2
     add-u16-at-3
     u16-at-requires-3
-    shared-slice-read-t16
     returns
     is-call-requires-2
-    shared-slice-read-t20
+    shared-slice-read-holder-2
     returns-2
     is-call-requires-3
+    shared-slice-read-tug
     add-u16-at-4
     u16-at-requires-4
     add-u16-at-5
@@ -181,7 +182,6 @@ field-entry-spec =
     u16-at-requires-6
     add-u16-at-7
     u16-at-requires-7
-    shared-slice-read-t25
     returns-3
     is-call-requires-4
     returns-4

@@ -13,17 +13,17 @@ add-p c = search needs
 number-at-requires : tie.Need-number-at-requires
 number-at-requires c κs = search needs
 
-add-t6 : tie.Need-add-t6
-add-t6 c = search needs
+add-first : tie.Need-add-first
+add-first c = search needs
 
-shared-slice-read-t8 : tie.Need-shared-slice-read-t8
-shared-slice-read-t8 c = search needs
+shared-slice-read-first : tie.Need-shared-slice-read-first
+shared-slice-read-first c = search needs
 
-add-t9 : tie.Need-add-t9
-add-t9 c = search needs
+add-last : tie.Need-add-last
+add-last c = search needs
 
-shared-slice-read-t11 : tie.Need-shared-slice-read-t11
-shared-slice-read-t11 c = search needs
+shared-slice-read-last : tie.Need-shared-slice-read-last
+shared-slice-read-last c = search needs
 
 returns : tie.Need-returns
 returns c =
@@ -37,8 +37,8 @@ read-sweep-spec =
     mul-p
     add-p
     number-at-requires
-    add-t6
-    shared-slice-read-t8
-    add-t9
-    shared-slice-read-t11
+    add-first
+    shared-slice-read-first
+    add-last
+    shared-slice-read-last
     returns)
