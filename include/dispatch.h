@@ -22,8 +22,8 @@
  * All else is the call's own: any bytes, any lengths and any numbers are answered, and nothing has to be set up first.
  *
  * Threads. A call keeps nothing between calls, has no state but what it is lent, and allocates nothing. So calls from
- * several threads need no lock, as long as none writes what another is lent. The archive needs memcpy and memset of the C
- * library, and nothing else.
+ * several threads need no lock, as long as none writes what another is lent. The archive needs memset of the C library,
+ * and nothing else.
  *
  * What each call returns and writes is proved: crates/dispatch_c/src/lib.rt has the contracts, and
  * crates/answers_c/specs/Words.antt says how a word is read. */

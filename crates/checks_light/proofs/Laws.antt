@@ -4,9 +4,10 @@ use Prim.Native.Nat.{ℕ, _≤_, _<_}
 use mathlib.Core.Path.{_≡_, ap, _∙_}
 use mathlib.Core.Bool.{true}
 use mathlib.Core.List.{List}
-use lib.ListN.{length, getD}
+use lib.ListN.{length, getD, replicate, length-replicate}
+use native.Mathlib.Omega.{arith}
 use borrow.Author.Tests.{eqb-false, not-false}
-use Rattle.meaning.specs.Limits.{fileLimit, lastEdition}
+use Rattle.meaning.specs.Limits.{fileLimit, motionLimit, lastEdition}
 use Rattle.meaning.specs.Answers.{lowest}
 use Rattle.meaning.specs.Site.{Site, siteOf}
 use Rattle.meaning.specs.Board.{edition, free, mark, nextEdition}
@@ -18,7 +19,7 @@ use Rattle.meaning.proofs.CallLaws.{named-goal}
 use Rattle.site_layout.specs.Laid.{statePlace, Laid}
 use Rattle.site.specs.Ready.{Ready}
 use Rattle.site.specs.declared.Sizes.{Sizes}
-use Rattle.site_read.proofs.Laws.{read-laid}
+use Rattle.site_read.proofs.Laws.{read-laid, laid-few}
 use Rattle.board.proofs.EditionLaws.{next-mark}
 use Rattle.checks.proofs.Passed.{later-passed, edition-below}
 use Rattle.checks_light.specs.Work.{Postable}
@@ -34,6 +35,19 @@ goal-below site l h = named-goal site (startOf l) (l .goal) (l .dwell) (every-at
 pub ready-index : {file : List ℕ} {room : ℕ} {l : Sizes} → Ready file room l
     → (length file ≤ fileLimit) × Laid file × (l .start ≡ statePlace (length (siteOf file .states))) × (l .motions ≡ length (siteOf file .motions))
 ready-index {file} r = (read-passes file _ (r .read) .short, read-laid file _ (r .read), ap (λ (k : Sizes). k .start) (r .sizes), ap (λ (k : Sizes). k .motions) (r .sizes))
+
+-- a file that is ready has no more motions than any site may have
+pub ready-few : {file : List ℕ} {room : ℕ} {l : Sizes} → Ready file room l → l .motions ≤ motionLimit
+ready-few {file} r =
+    let (_, laid, _, count) = ready-index r in
+    let few = laid-few file laid in
+    omega arith
+
+-- what filling an index asks, of one that is cleared and has room for n motions
+pub index-asked : (n : ℕ) {file : List ℕ} {room : ℕ} {l : Sizes} → Ready file room l → l .motions ≤ n
+    → ((length file ≤ fileLimit) × Laid file × (l .start ≡ statePlace (length (siteOf file .states))) × (l .motions ≡ length (siteOf file .motions)))
+    × (l .motions ≤ length (replicate {A = ℕ} n 0))
+index-asked n r few = (ready-index r, omega (arith, length-replicate {A = ℕ} n 0))
 
 -- ---- no check of a post applies
 

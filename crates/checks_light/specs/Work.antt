@@ -1,4 +1,4 @@
--- What the work of a post asks.
+-- The index of a small site, and what the work of a post asks.
 -- Assumes nothing.
 use Prim.Native.Nat.{ℕ, _<_}
 use mathlib.Core.Path.{_≡_}
@@ -12,6 +12,10 @@ use Rattle.meaning.specs.Light.{isLight, lightOf}
 use Rattle.meaning.specs.Calls.{lightValid}
 use Rattle.site.specs.declared.Sizes.{Sizes}
 use Rattle.site.specs.Ready.{Ready}
+
+-- motions that the index of a small site has room for
+abbrev pub fewMotions : ℕ
+fewMotions = 64
 
 -- the site file and the board are ready, the light is valid on the board, and there is a next edition
 pub record Postable (file board : List ℕ) (l : Sizes) (light : List ℕ) : Type 0 where

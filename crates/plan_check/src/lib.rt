@@ -4,7 +4,6 @@ use light_steps::Step;
 use plan_steps::Node;
 use site::Sizes;
 use site::Trip;
-use site_layout::MOTION_LIMIT;
 use time::Span;
 use time::Tick;
 ghost use mathlib.Core.Path.{_≡_};
@@ -105,7 +104,7 @@ fn walk_steps(
     file: &[u8],
     board: &[u8],
     sizes: Sizes,
-    index: &[u16; MOTION_LIMIT],
+    index: &[u16],
     light: &[u8],
     first: usize,
     start: Node,
@@ -144,13 +143,7 @@ fn walk_steps(
 }
 
 // The light's steps are a valid plan on the board that ends at the light's goal and arrival and unloads there.
-pub fn light_valid(
-    file: &[u8],
-    board: &[u8],
-    sizes: Sizes,
-    index: &[u16; MOTION_LIMIT],
-    light: &[u8],
-) -> bool
+pub fn light_valid(file: &[u8], board: &[u8], sizes: Sizes, index: &[u16], light: &[u8]) -> bool
     requires { ⌜ Ready (now file) (length (now board)) sizes × Index (now file) (now index) × (isLight (now light) ≡ true) ⌝ }
     ensures { λ r. ⌜ r ≡ lightValid (siteOf (now (file .entry))) (free (siteOf (now (file .entry))) (now (board .entry))) (lightOf (now (light .entry))) ⌝ }
 {

@@ -2,7 +2,6 @@
 use light_steps::Step;
 use plan_steps::Node;
 use site::Sizes;
-use site_layout::MOTION_LIMIT;
 use site_read::Motion;
 use site_sweeps::Sweep;
 use time::Span;
@@ -77,7 +76,7 @@ fn mark_steps(
     file: &[u8],
     board: &mut [u8],
     sizes: Sizes,
-    index: &[u16; MOTION_LIMIT],
+    index: &[u16],
     light: &[u8],
     first: usize,
     start: Node,
@@ -110,13 +109,7 @@ fn mark_steps(
 }
 
 // Marks what a valid light holds: its start, which is a wait of no ticks, its steps, and its unloading, which holds what a wait does.
-pub fn mark_light(
-    file: &[u8],
-    board: &mut [u8],
-    sizes: Sizes,
-    index: &[u16; MOTION_LIMIT],
-    light: &[u8],
-)
+pub fn mark_light(file: &[u8], board: &mut [u8], sizes: Sizes, index: &[u16], light: &[u8])
     requires { ⌜ Ready (now file) (length (now board)) sizes × Index (now file) (now index) × (isLight (now light) ≡ true) ⌝ }
     requires { ⌜ lightValid (siteOf (now file)) (free (siteOf (now file)) (now board)) (lightOf (now light)) ≡ true ⌝ }
     ensures { λ _. ⌜ now (board .exit) ≡ mark (siteOf (now (file .entry))) (lightOf (now (light .entry)) .tug) (lightPairs (siteOf (now (file .entry))) (lightOf (now (light .entry)))) (now (board .entry)) ⌝ }

@@ -34,6 +34,7 @@ pub record MotionPlace (file : List ℕ) (k r : ℕ) : Type 0 where
   pub laid : isMotion (fieldAt file r) ≡ true
   pub motion : motionOf (fieldAt file r) ≡ motionAt (siteOf file) k
 
--- the place of each motion, by number
-abbrev pub Index : List ℕ → List ℕ → Type 0
-Index file places = (k : ℕ) → k < length (siteOf file .motions) → MotionPlace file k (getD places k 0)
+-- the index has room for every motion, and says the place of each, by number
+pub record Index (file places : List ℕ) : Type 0 where
+  pub room : length (siteOf file .motions) ≤ length places
+  pub place : (k : ℕ) → k < length (siteOf file .motions) → MotionPlace file k (getD places k 0)

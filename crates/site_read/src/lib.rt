@@ -1,6 +1,5 @@
 // The states and the motions of a site file that is laid out well, read by place and by number.
 use fields::FIELD_HEADER;
-use site_layout::MOTION_LIMIT;
 ghost use mathlib.Core.Path.{_≡_};
 ghost use mathlib.Core.Bool.{true};
 ghost use Prim.Native.Nat.{_<_, _≤_};
@@ -74,11 +73,12 @@ pub fn read_motion(file: &[u8], at: usize) -> Motion
 }
 
 // The index: where the field of each of the `motions` motions starts, found in one walk from `start`, where they start.
-pub fn motion_index(file: &[u8], start: usize, motions: usize) -> [u16; MOTION_LIMIT]
+pub fn fill_index(file: &[u8], start: usize, motions: usize, index: &mut [u16])
     requires { ⌜ (length (now file) ≤ 65536) × Laid (now file) × (start ≡ statePlace (length (siteOf (now file) .states))) × (motions ≡ length (siteOf (now file) .motions)) ⌝ }
-    ensures { λ r. ⌜ Index (now (file .entry)) r ⌝ }
+    requires { ⌜ motions ≤ length (now index) ⌝ }
+    ensures { λ _. ⌜ Index (now (file .entry)) (now (index .exit)) ⌝ }
+    ensures { λ _. ⌜ length (now (index .exit)) ≡ length (now (index .entry)) ⌝ }
 {
-    let mut index = [0u16; MOTION_LIMIT];
     let mut at = start;
     let mut number = 0;
     while number < motions {
@@ -86,11 +86,10 @@ pub fn motion_index(file: &[u8], start: usize, motions: usize) -> [u16; MOTION_L
         at = fields::next_field(file, at);
         number += 1;
     }
-    index
 }
 
 // The motion of the number `k`, by the index.
-pub fn motion_at(file: &[u8], index: &[u16; MOTION_LIMIT], k: usize) -> Motion
+pub fn motion_at(file: &[u8], index: &[u16], k: usize) -> Motion
     requires { ⌜ Laid (now file) × Index (now file) (now index) × (k < length (siteOf (now file) .motions)) ⌝ }
     ensures { λ r. ⌜ MotionIs (now (file .entry)) (motionAt (siteOf (now (file .entry))) k) r ⌝ }
 {

@@ -14,7 +14,6 @@ use Rattle.meaning.specs.Calls.{bytesView, lightValid, lightRefusals}
 use Rattle.meaning.proofs.CheckLaws.{hit, miss, none-left}
 use Rattle.checks.specs.Checks.{fromNumber}
 use Rattle.checks.proofs.Laws.{negated, Past}
-use Rattle.checks_light.proofs.Laws.{ready-index}
 use Rattle.checks_light.proofs.edition_refusal.Statement.{statement}
 use Rattle.checks_light.proofs.edition_refusal.Tie as tie
 
@@ -41,10 +40,10 @@ past-16 : (c : tie.Else2) → Past 17 (list (start (c .before .before)))
 unfolding lightRefusals bytesView
 past-16 c m h = past-15 (c .before) m (miss _ _ _ _ (sym (other-is (c .before .before)) ∙ c .if2 .left) h)
 
--- the test that light_valid made is that of the light's plan on the board
-valid-is : (c : tie.After-light-valid) → let s = start (c .before .before .before .before .before) in
-    c .light-valid .result ≡ lightValid (siteOf (s .args .file .now)) (free (siteOf (s .args .file .now)) (s .args .board .now)) (lightOf (s .args .light .now))
-valid-is c = c .light-valid .ensures
+-- the test that valid_sized made is that of the light's plan on the board
+valid-is : (c : tie.After-valid-sized) → let s = start (c .before .before .before) in
+    c .valid-sized .result ≡ lightValid (siteOf (s .args .file .now)) (free (siteOf (s .args .file .now)) (s .args .board .now)) (lightOf (s .args .light .now))
+valid-is c = c .valid-sized .ensures
 
 -- ---- the needs
 
@@ -62,21 +61,16 @@ returns-2 : tie.Need-returns-2
 unfolding lightRefusals bytesView
 returns-2 c = past-15 (c .before) _ (hit 16 _ _ (sym (other-is (c .before .before)) ∙ c .if2 .taken))
 
-motion-index-requires : tie.Need-motion-index-requires
-motion-index-requires c κs = ready-index (start (c .before .before) .pre .0)
-
-light-valid-requires : tie.Need-light-valid-requires
-light-valid-requires c κs =
-    let p = start (c .before .before .before .before) .pre in
-    (p .0, c .before .motion-index .ensures, p .1)
+valid-sized-requires : tie.Need-valid-sized-requires
+valid-sized-requires c κs = let p = start (c .before .before) .pre in (p .0, p .1)
 
 returns-3 : tie.Need-returns-3
 unfolding lightRefusals bytesView
-returns-3 c = past-16 (c .before .before .before .before) _ (hit 17 _ _ (negated (valid-is (c .before)) (c .if3 .taken)))
+returns-3 c = past-16 (c .before .before) _ (hit 17 _ _ (negated (valid-is (c .before)) (c .if3 .taken)))
 
 returns-4 : tie.Need-returns-4
 unfolding lightRefusals bytesView
-returns-4 c = past-16 (c .before .before .before .before) _ (miss _ _ _ _ (negated (valid-is (c .before)) (c .if3 .left)) none-left)
+returns-4 c = past-16 (c .before .before) _ (miss _ _ _ _ (negated (valid-is (c .before)) (c .if3 .left)) none-left)
 
 pub edition-refusal-spec : {M : Type 1} → statement M
 edition-refusal-spec =
@@ -86,7 +80,6 @@ edition-refusal-spec =
     read-edition-requires
     returns
     returns-2
-    motion-index-requires
-    light-valid-requires
+    valid-sized-requires
     returns-3
     returns-4)

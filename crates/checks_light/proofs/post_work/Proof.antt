@@ -6,25 +6,25 @@ use Rattle.meaning.specs.Site.{siteOf}
 use Rattle.meaning.specs.Light.{lightOf}
 use Rattle.meaning.specs.Calls.{lightPairs}
 use Rattle.checks.proofs.Laws.{mark-editable}
-use Rattle.checks_light.proofs.Laws.{ready-index, post-changes}
+use Rattle.checks_light.proofs.Laws.{post-changes}
 use Rattle.checks_light.proofs.post_work.Statement.{statement}
 use Rattle.checks_light.proofs.post_work.Tie as tie
 
-motion-index-requires : tie.Need-motion-index-requires
-motion-index-requires c κs = ready-index (c .before .before .before .pre .ready)
+-- where the function began, from behind the marking
+abbrev start : tie.After-mark-sized → tie.Start
+start c = c .before .before .before .before .before
 
-mark-light-requires : tie.Need-mark-light-requires
-mark-light-requires c κs =
-    let p = c .before .before .before .before .before .before .pre in
-    ((p .ready, c .before .before .motion-index .ensures, p .lit), p .valid)
+mark-sized-requires : tie.Need-mark-sized-requires
+mark-sized-requires c κs = let p = c .before .before .before .before .pre in ((p .ready, p .lit), p .valid)
 
 next-edition-requires : tie.Need-next-edition-requires
 next-edition-requires c κs =
-    let start = c .before .before .before .before .before .before .before .before .before .before in
-    let site = siteOf (start .args .file .now) in
-    let light = lightOf (start .args .light .now) in
-    let size = start .pre .ready .board in
-    mark-editable site (light .tug) (lightPairs site light) (start .args .board .now) _ (c .before .before .before .mark-light .ensures) (omega arith, start .pre .below)
+    let marked = c .before .before .before in
+    let b = start marked in
+    let site = siteOf (b .args .file .now) in
+    let light = lightOf (b .args .light .now) in
+    let size = b .pre .ready .board in
+    mark-editable site (light .tug) (lightPairs site light) (b .args .board .now) _ (marked .mark-sized .ensures) (omega arith, b .pre .below)
 
 same-length : tie.Need-same-length
 same-length c = search needs
@@ -32,9 +32,7 @@ same-length c = search needs
 returns : tie.Need-returns
 returns c =
     let worked = c .before .before in
-    post-changes _ _ _ _ _ (worked .before .before .before .before .mark-light .ensures) (worked .next-edition .ensures)
+    post-changes _ _ _ _ _ (worked .before .before .before .before .mark-sized .ensures) (worked .next-edition .ensures)
 
 pub post-work-spec : {M : Type 1} → statement M
-post-work-spec =
-    tie.close
-    (tie.spec motion-index-requires mark-light-requires next-edition-requires same-length returns)
+post-work-spec = tie.close (tie.spec mark-sized-requires next-edition-requires same-length returns)
