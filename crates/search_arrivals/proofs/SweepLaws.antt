@@ -6,10 +6,10 @@ use native.Mathlib.Omega.{arith}
 use mathlib.Core.Path.{_≡_, sym, ap, ap₂, _∙_}
 use mathlib.Core.Bool.{Bool, true, _&&_, and-assoc, and-true}
 use mathlib.Core.List.{List}
-use lib.Dec.{ltb, eqb}
+use lib.Dec.{ltb}
 use lib.Pow.{pow-pos}
 use lib.ListN.{length, replicate, getD-replicate}
-use borrow.Author.Tests.{ltb-true, ltb-false, eqb-true, eqb-false}
+use borrow.Author.Tests.{ltb-true, ltb-false}
 use Rattle.meaning.specs.Limits.{cellLimit, sweepSize}
 use Rattle.meaning.specs.Basics.{all}
 use Rattle.meaning.specs.Site.{Sweep}
@@ -24,7 +24,6 @@ use Rattle.search_ticks.proofs.BitLaws.{odd-of}
 use Rattle.search_runs.specs.Runs.{ended, runTables, runLength, tableOf, Tables}
 use Rattle.search_runs.proofs.EndedLaws.{ended-both}
 use Rattle.search_runs.proofs.LengthLaws.{table-mono, length-small}
-use Rattle.search_site.specs.Arrays.{spanAt, Motions}
 use Rattle.search_site.specs.Decoded.{SweepsIn}
 use Rattle.search_arrivals.specs.Arrivals.{Narrowed, arrives}
 
@@ -152,21 +151,3 @@ rows-kept l₀ l m test p x i other h =
     decide (ltb x m)
     (λ e. let lt : x < m = ltb-true x m e in p .before (x * blockTicks + i) (omega arith))
     (λ e. let ge : m ≤ x = ltb-false x m e in p .after (x * blockTicks + i) (omega arith))
-
--- ---- the longest span of the motions below m
-
-abbrev pub Longest : List ℕ → ℕ → ℕ → Type 0
-Longest mv m most = (1 ≤ most) × ((most ≤ spanLimit) × ((x : ℕ) → x < m → spanAt mv x ≤ most))
-
-pub longest-turn : (mv : List ℕ) (k m most span more : ℕ) → m < k → Motions k mv → span ≡ spanAt mv m → (most ≤ more) × (span ≤ more) → ((n : ℕ) → most ≤ n → span ≤ n → more ≤ n)
-    → Longest mv m most → Longest mv (m + 1) more
-longest-turn mv k m most span more lt motions e ge least g = (
-  omega (arith, ge .0, g .0),
-  (
-    least spanLimit (g .1 .0) (omega (arith, motions .span m lt .1)),
-    λ x h.
-        decide (eqb x m)
-        (λ u. let same : x ≡ m = eqb-true x m u in rw (same, ← e) (ge .1))
-        (λ u. omega (arith, ge .0, g .1 .1 x (omega (arith, eqb-false x m u)))),
-  ),
-)

@@ -12,7 +12,6 @@ ghost use Rattle.search_sizes.specs.Sizes.{blockWords, blockTicks, windowWords,
 ghost use Rattle.search_ticks.specs.Rows.{at, Put};
 ghost use Rattle.search_runs.specs.Runs.{ended, tableOf, Tables};
 ghost use Rattle.site_sweeps.specs.Places.{sweepsAt};
-ghost use Rattle.search_site.specs.Arrays.{spanAt, Motions};
 ghost use Rattle.search_site.specs.Decoded.{SweepsIn};
 ghost use Rattle.search_arrivals.specs.Arrivals.{Narrowed, arrives};
 
@@ -105,25 +104,4 @@ pub fn arrivals_of(
         i += 1;
     }
     store(al, m, &x);
-}
-
-fn larger(a: usize, b: usize) -> usize
-    ensures { λ r. ⌜ (a ≤ r) × (b ≤ r) ⌝ }
-    ensures { λ r. ⌜ ((n : ℕ) → a ≤ n → b ≤ n → r ≤ n) ⌝ }
-{
-    if a < b { b } else { a }
-}
-
-// A span that is no shorter than that of each of the k motions.
-pub fn longest_span(motions: &[u16], k: usize) -> usize
-    requires { ⌜ Motions k (now motions) ⌝ }
-    ensures { λ r. ⌜ (1 ≤ r) × ((r ≤ spanLimit) × ((m : ℕ) → m < k → spanAt (now (motions .entry)) m ≤ r)) ⌝ }
-{
-    let mut most = 1;
-    let mut m = 0;
-    while m < k {
-        most = larger(most, search_site::span_of(motions, k, m));
-        m += 1;
-    }
-    most
 }

@@ -10,7 +10,7 @@ use mathlib.Core.List.{List}
 use lib.Dec.{leb}
 use lib.ListN.{length, getD, replicate}
 use borrow.Author.Tests.{leb-true}
-use Rattle.meaning.specs.Site.{Site, siteOf, cellOf}
+use Rattle.meaning.specs.Site.{Site, siteOf, cellOf, motionAt}
 use Rattle.meaning.specs.WellFormed.{WellFormed}
 use Rattle.meaning.specs.Board.{Free, free}
 use Rattle.meaning.specs.Plan.{node, canUnload}
@@ -27,10 +27,10 @@ use Rattle.search_sizes.specs.Sizes.{blockTicks, rowWords, blockWords, windowWo
 use Rattle.search_ticks.specs.Bits.{bit}
 use Rattle.search_ticks.specs.Rows.{at, has}
 use Rattle.search_ticks.proofs.RowLaws.{zeros-at, zero-bit}
-use Rattle.search_runs.specs.Runs.{tableOf}
+use Rattle.search_runs.specs.Runs.{runTables, tableOf}
 use Rattle.search_runs.proofs.LengthLaws.{table-mono}
 use Rattle.search_site.specs.Arrays.{cellAt, spanAt, placeAt, countAt, Motions}
-use Rattle.search_site.specs.Decoded.{SweepsIn, StatesDecoded, MotionsDecoded}
+use Rattle.search_site.specs.Decoded.{SweepsIn, StatesDecoded, MotionsDecoded, LongestTo}
 use Rattle.search_site.proofs.DecodedLaws.{well, states-fit, cells-below, motions-fit, motions-lead, sweeps-fit, decoded}
 use Rattle.search_ends.specs.Ends.{reachedAt, endsOn, First}
 use Rattle.search_reach.specs.Explored.{InArrays, Space, Scratch, EndsRight}
@@ -38,7 +38,7 @@ use Rattle.search_reach.proofs.BlockLaws.{never-true}
 use Rattle.search_trace.specs.Turns.{Search, Found}
 use Rattle.search_trace.proofs.FoundLaws.{routeAfter, route-there, route-nowhere, arrival-found}
 use Rattle.search_plan.specs.declared.Traced.the-variants.{Steps, Missing}
-use Rattle.search_plan.specs.Planned.{Asked, routeOn, Planned, Prepared}
+use Rattle.search_plan.specs.Planned.{Asked, routeOn, Planned, Possible, Needed, TabRoom}
 
 -- ---- empty tables
 
@@ -218,28 +218,37 @@ module _ (file board : List ℕ) (l : Sizes) (trip : Trip) (q : Asked file l (le
 
 -- ---- the tables
 
--- the tables that motions of at most this span need
-pub enough : (k longest : ℕ) (mv : List ℕ) → longest ≤ 255 → ((m : ℕ) → m < k → spanAt mv m ≤ longest) → (tables : ℕ) → tables ≡ tableOf (longest + 1) + 1
-    → (m : ℕ) → m < k → tableOf (suc (spanAt mv m)) < tables
-enough k longest mv small longer tables is m h =
+-- those that motions of at most the longest span need
+pub needed : (file : List ℕ) (l : Sizes) (longest tables : ℕ) → LongestTo file (l .motions) longest → tables ≡ tableOf (longest + 1) + 1 → tableOf (longest + 1) < runTables
+    → Needed file l tables
+needed file l longest tables to is few =
     let more : longest + 1 ≡ suc longest = omega arith in
-    let mono = table-mono (suc (spanAt mv m)) (suc longest) (omega arith) (omega (arith, longer m h)) (omega arith) in
-    omega (arith, ap tableOf more)
+    record {
+      some = omega arith;
+      few = omega arith;
+      enough = λ m h.
+          let mono = table-mono (suc (motionAt (siteOf file) m .span)) (suc longest) (omega arith) (omega (arith, to .longest m h)) (omega (arith, to .small)) in
+          omega (arith, ap tableOf more);
+    }
 
-module _ (file board : List ℕ) (l : Sizes) (trip : Trip) (st mv ends : List ℕ) (tables : ℕ) (p : Prepared file board l trip st mv ends tables) where
-  -- room for so many rows
-  pub space-of : (rows tab : ℕ) → tables * l .cells ≤ rows → rows ≤ 9000 → tab ≡ rows * windowWords + 1 → Space l mv tables tab
-  space-of rows tab few-rows most is-tab =
-      record {
-        some = p .some;
-        few = p .few;
-        enough = p .enough;
-        tab = omega arith;
-        small = omega arith;
-      }
+-- room for so many rows
+pub tab-room : (l : Sizes) (tables rows tab : ℕ) → tables * l .cells ≤ rows → rows ≤ 9000 → tab ≡ rows * windowWords + 1 → TabRoom l tables tab
+tab-room l tables rows tab few-rows most is-tab = record { tab = omega arith; small = omega arith }
 
-  pub all-rows : tables * l .cells ≤ 9000
-  all-rows = mul-le-mul (p .few) (ranges file board l trip (p .possible .asked) .cells-few)
+-- room that the search over blocks asks for
+pub space-in : (file : List ℕ) (l : Sizes) (mv : List ℕ) (tables tab : ℕ) → l .motions ≡ length (siteOf file .motions) → MotionsDecoded file mv → Needed file l tables
+    → TabRoom l tables tab → Space l mv tables tab
+space-in file l mv tables tab count held needs room =
+    record {
+      some = needs .some;
+      few = needs .few;
+      enough = λ m h. subst (λ (span : ℕ). tableOf (suc span) < tables) (sym (held m (omega arith) .shows .span)) (needs .enough m h);
+      tab = room .tab;
+      small = room .small;
+    }
+
+pub all-rows : (file board : List ℕ) (l : Sizes) (trip : Trip) (ends : List ℕ) (tables : ℕ) → Possible file board l trip ends → Needed file l tables → tables * l .cells ≤ 9000
+all-rows file board l trip ends tables p needs = mul-le-mul (needs .few) (ranges file board l trip (p .asked) .cells-few)
 
 -- room for so many states and motions
 pub scratch-of : (l : Sizes) (states motions ls kn gr al re : ℕ) → l .states ≤ states → l .motions ≤ motions

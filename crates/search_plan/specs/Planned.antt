@@ -1,12 +1,12 @@
 -- What the search for a plan needs, and what it answers.
 -- Assumes nothing.
-use Prim.Native.Nat.{ℕ, suc, _≤_, _<_}
+use Prim.Native.Nat.{ℕ, suc, _*_, _≤_, _<_}
 use mathlib.Core.Path.{_≡_}
 use mathlib.Core.Bool.{true}
 use mathlib.Core.Option.{Option, none, some}
 use mathlib.Core.List.{List}
 use lib.ListN.{length}
-use Rattle.meaning.specs.Site.{siteOf, cellOf}
+use Rattle.meaning.specs.Site.{siteOf, cellOf, motionAt}
 use Rattle.meaning.specs.Board.{free}
 use Rattle.meaning.specs.Reach.{Route, findRoute}
 use Rattle.meaning.specs.Calls.{tripNamed}
@@ -15,10 +15,9 @@ use Rattle.site.specs.Ready.{Ready}
 use Rattle.site.specs.declared.Sizes.{Sizes}
 use Rattle.site.specs.declared.Trip.{Trip}
 use Rattle.light_write.specs.Codes.{stepsIn}
+use Rattle.search_sizes.specs.Sizes.{windowWords, tableLimit}
 use Rattle.search_runs.specs.Runs.{runTables, tableOf}
-use Rattle.search_site.specs.Arrays.{spanAt}
-use Rattle.search_site.specs.Decoded.{StatesDecoded, MotionsDecoded}
-use Rattle.search_reach.specs.Explored.{InArrays, EndsRight}
+use Rattle.search_reach.specs.Explored.{EndsRight}
 use Rattle.search_plan.specs.declared.Traced.{Traced}
 use Rattle.search_plan.specs.declared.Traced.the-variants.{Steps, Missing}
 
@@ -44,12 +43,13 @@ pub record Possible (file board : List ℕ) (l : Sizes) (trip : Trip) (ends : Li
   pub start-free : free (siteOf file) board (cellOf (siteOf file) (trip .start)) (trip .tick) ≡ true
   pub ends-right : EndsRight (siteOf file) (free (siteOf file) board) (trip .goal) (trip .dwell) (trip .tick) ends
 
--- and the site in arrays, and the tables that its motions need
-pub record Prepared (file board : List ℕ) (l : Sizes) (trip : Trip) (st mv ends : List ℕ) (tables : ℕ) : Type 0 where
-  pub possible : Possible file board l trip ends
-  pub arrays : InArrays file l st mv
-  pub states : StatesDecoded file st
-  pub motions : MotionsDecoded file mv
+-- so many tables of runs, as the motions need
+pub record Needed (file : List ℕ) (l : Sizes) (tables : ℕ) : Type 0 where
   pub some : 1 ≤ tables
   pub few : tables ≤ runTables
-  pub enough : (m : ℕ) → m < l .motions → tableOf (suc (spanAt mv m)) < tables
+  pub enough : (m : ℕ) → m < l .motions → tableOf (suc (motionAt (siteOf file) m .span)) < tables
+
+-- room for them and one word more
+pub record TabRoom (l : Sizes) (tables size : ℕ) : Type 0 where
+  pub tab : tables * l .cells * windowWords < size
+  pub small : size < tableLimit

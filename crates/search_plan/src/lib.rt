@@ -26,8 +26,8 @@ ghost use Prim.Native.Nat.{ℕ, _*_, _≤_};
 ghost use lib.ListN.{length};
 ghost use Rattle.search_sizes.specs.Sizes.{smallRows, smallMotions, smallStates, middleRows, middleMotions, middleStates, wideRows, wideMotions, wideStates};
 ghost use Rattle.search_ticks.specs.Rows.{at};
-ghost use Rattle.search_reach.specs.Explored.{Space, Scratch};
-ghost use Rattle.search_plan.specs.Planned.{Asked, routeOn, Planned, Possible, Prepared};
+ghost use Rattle.search_reach.specs.Explored.{Scratch};
+ghost use Rattle.search_plan.specs.Planned.{Asked, routeOn, Planned, Possible, Needed, TabRoom};
 
 // A plan's number of steps and its arrival, or that there is none.
 pub enum Traced {
@@ -42,9 +42,9 @@ fn search_in(
     board: &[u8],
     trip: Trip,
     ends: &[u8; TICKS],
-    states: &[u16],
-    motions: &[u16],
     tables: usize,
+    states: &mut [u16],
+    motions: &mut [u16],
     lists: &mut [u16],
     known: &mut [u8],
     grown: &mut [u64],
@@ -53,12 +53,15 @@ fn search_in(
     tab: &mut [u64],
     path: &mut [u16; CODE_LIMIT],
 ) -> Traced
-    requires { ⌜ Prepared (now file) (now board) sizes trip (now states) (now motions) (now ends) tables ⌝ }
-    requires { ⌜ Space sizes (now motions) tables (length (now tab)) × ((j : ℕ) → at (now tab) j ≡ false) ⌝ }
+    requires { ⌜ Possible (now file) (now board) sizes trip (now ends) × Needed (now file) sizes tables ⌝ }
+    requires { ⌜ (sizes .states * 2 ≤ length (now states)) × (sizes .motions * 5 ≤ length (now motions)) ⌝ }
     requires { ⌜ Scratch sizes (length (now lists)) (length (now known)) (length (now grown)) (length (now allowed)) (length (now reached)) ⌝ }
+    requires { ⌜ TabRoom sizes tables (length (now tab)) × ((j : ℕ) → at (now tab) j ≡ false) ⌝ }
     requires { ⌜ ((j : ℕ) → at (now reached) j ≡ false) ⌝ }
     ensures { λ r. ⌜ Planned (routeOn (now (file .entry)) (now (board .entry)) trip) (now (path .exit)) r ⌝ }
 {
+    search_site::decode_states(file, sizes.states, states);
+    search_site::decode_motions(file, sizes.start, sizes.motions, motions);
     let tick = trip.tick as usize;
     let goal = trip.goal as usize;
     let arrival = search_reach::explore(
@@ -98,316 +101,7 @@ fn search_in(
     Traced::Steps(count, arrival)
 }
 
-// ---- the tables of runs, in four sizes
-
-// One word more than the rows have, which a shift by nothing reads.
-fn rows_small(
-    file: &[u8],
-    sizes: Sizes,
-    board: &[u8],
-    trip: Trip,
-    ends: &[u8; TICKS],
-    states: &[u16],
-    motions: &[u16],
-    tables: usize,
-    lists: &mut [u16],
-    known: &mut [u8],
-    grown: &mut [u64],
-    allowed: &mut [u64],
-    reached: &mut [u64],
-    path: &mut [u16; CODE_LIMIT],
-) -> Traced
-    requires { ⌜ Prepared (now file) (now board) sizes trip (now states) (now motions) (now ends) tables ⌝ }
-    requires { ⌜ tables * sizes .cells ≤ smallRows ⌝ }
-    requires { ⌜ Scratch sizes (length (now lists)) (length (now known)) (length (now grown)) (length (now allowed)) (length (now reached)) ⌝ }
-    requires { ⌜ ((j : ℕ) → at (now reached) j ≡ false) ⌝ }
-    ensures { λ r. ⌜ Planned (routeOn (now (file .entry)) (now (board .entry)) trip) (now (path .exit)) r ⌝ }
-{
-    let mut tab = [0u64; SMALL_ROWS * WINDOW_WORDS + 1];
-    search_in(
-        file,
-        sizes,
-        board,
-        trip,
-        ends,
-        states,
-        motions,
-        tables,
-        lists,
-        known,
-        grown,
-        allowed,
-        reached,
-        &mut tab,
-        path,
-    )
-}
-
-fn rows_middle(
-    file: &[u8],
-    sizes: Sizes,
-    board: &[u8],
-    trip: Trip,
-    ends: &[u8; TICKS],
-    states: &[u16],
-    motions: &[u16],
-    tables: usize,
-    lists: &mut [u16],
-    known: &mut [u8],
-    grown: &mut [u64],
-    allowed: &mut [u64],
-    reached: &mut [u64],
-    path: &mut [u16; CODE_LIMIT],
-) -> Traced
-    requires { ⌜ Prepared (now file) (now board) sizes trip (now states) (now motions) (now ends) tables ⌝ }
-    requires { ⌜ tables * sizes .cells ≤ middleRows ⌝ }
-    requires { ⌜ Scratch sizes (length (now lists)) (length (now known)) (length (now grown)) (length (now allowed)) (length (now reached)) ⌝ }
-    requires { ⌜ ((j : ℕ) → at (now reached) j ≡ false) ⌝ }
-    ensures { λ r. ⌜ Planned (routeOn (now (file .entry)) (now (board .entry)) trip) (now (path .exit)) r ⌝ }
-{
-    let mut tab = [0u64; MIDDLE_ROWS * WINDOW_WORDS + 1];
-    search_in(
-        file,
-        sizes,
-        board,
-        trip,
-        ends,
-        states,
-        motions,
-        tables,
-        lists,
-        known,
-        grown,
-        allowed,
-        reached,
-        &mut tab,
-        path,
-    )
-}
-
-fn rows_wide(
-    file: &[u8],
-    sizes: Sizes,
-    board: &[u8],
-    trip: Trip,
-    ends: &[u8; TICKS],
-    states: &[u16],
-    motions: &[u16],
-    tables: usize,
-    lists: &mut [u16],
-    known: &mut [u8],
-    grown: &mut [u64],
-    allowed: &mut [u64],
-    reached: &mut [u64],
-    path: &mut [u16; CODE_LIMIT],
-) -> Traced
-    requires { ⌜ Prepared (now file) (now board) sizes trip (now states) (now motions) (now ends) tables ⌝ }
-    requires { ⌜ tables * sizes .cells ≤ wideRows ⌝ }
-    requires { ⌜ Scratch sizes (length (now lists)) (length (now known)) (length (now grown)) (length (now allowed)) (length (now reached)) ⌝ }
-    requires { ⌜ ((j : ℕ) → at (now reached) j ≡ false) ⌝ }
-    ensures { λ r. ⌜ Planned (routeOn (now (file .entry)) (now (board .entry)) trip) (now (path .exit)) r ⌝ }
-{
-    let mut tab = [0u64; WIDE_ROWS * WINDOW_WORDS + 1];
-    search_in(
-        file,
-        sizes,
-        board,
-        trip,
-        ends,
-        states,
-        motions,
-        tables,
-        lists,
-        known,
-        grown,
-        allowed,
-        reached,
-        &mut tab,
-        path,
-    )
-}
-
-fn rows_most(
-    file: &[u8],
-    sizes: Sizes,
-    board: &[u8],
-    trip: Trip,
-    ends: &[u8; TICKS],
-    states: &[u16],
-    motions: &[u16],
-    tables: usize,
-    lists: &mut [u16],
-    known: &mut [u8],
-    grown: &mut [u64],
-    allowed: &mut [u64],
-    reached: &mut [u64],
-    path: &mut [u16; CODE_LIMIT],
-) -> Traced
-    requires { ⌜ Prepared (now file) (now board) sizes trip (now states) (now motions) (now ends) tables ⌝ }
-    requires { ⌜ Scratch sizes (length (now lists)) (length (now known)) (length (now grown)) (length (now allowed)) (length (now reached)) ⌝ }
-    requires { ⌜ ((j : ℕ) → at (now reached) j ≡ false) ⌝ }
-    ensures { λ r. ⌜ Planned (routeOn (now (file .entry)) (now (board .entry)) trip) (now (path .exit)) r ⌝ }
-{
-    let mut tab = [0u64; ROWS * WINDOW_WORDS + 1];
-    search_in(
-        file,
-        sizes,
-        board,
-        trip,
-        ends,
-        states,
-        motions,
-        tables,
-        lists,
-        known,
-        grown,
-        allowed,
-        reached,
-        &mut tab,
-        path,
-    )
-}
-
-// The smallest of them with room for the tables.
-fn search_rows(
-    file: &[u8],
-    sizes: Sizes,
-    board: &[u8],
-    trip: Trip,
-    ends: &[u8; TICKS],
-    states: &[u16],
-    motions: &[u16],
-    tables: usize,
-    lists: &mut [u16],
-    known: &mut [u8],
-    grown: &mut [u64],
-    allowed: &mut [u64],
-    reached: &mut [u64],
-    path: &mut [u16; CODE_LIMIT],
-) -> Traced
-    requires { ⌜ Prepared (now file) (now board) sizes trip (now states) (now motions) (now ends) tables ⌝ }
-    requires { ⌜ Scratch sizes (length (now lists)) (length (now known)) (length (now grown)) (length (now allowed)) (length (now reached)) ⌝ }
-    requires { ⌜ ((j : ℕ) → at (now reached) j ≡ false) ⌝ }
-    ensures { λ r. ⌜ Planned (routeOn (now (file .entry)) (now (board .entry)) trip) (now (path .exit)) r ⌝ }
-{
-    let rows = tables * sizes.cells;
-    if rows <= SMALL_ROWS {
-        return rows_small(
-            file,
-            sizes,
-            board,
-            trip,
-            ends,
-            states,
-            motions,
-            tables,
-            lists,
-            known,
-            grown,
-            allowed,
-            reached,
-            path,
-        );
-    }
-    if rows <= MIDDLE_ROWS {
-        return rows_middle(
-            file,
-            sizes,
-            board,
-            trip,
-            ends,
-            states,
-            motions,
-            tables,
-            lists,
-            known,
-            grown,
-            allowed,
-            reached,
-            path,
-        );
-    }
-    if rows <= WIDE_ROWS {
-        return rows_wide(
-            file,
-            sizes,
-            board,
-            trip,
-            ends,
-            states,
-            motions,
-            tables,
-            lists,
-            known,
-            grown,
-            allowed,
-            reached,
-            path,
-        );
-    }
-    rows_most(
-        file,
-        sizes,
-        board,
-        trip,
-        ends,
-        states,
-        motions,
-        tables,
-        lists,
-        known,
-        grown,
-        allowed,
-        reached,
-        path,
-    )
-}
-
 // ---- what is kept of the states and motions, in four sizes
-
-// The site in arrays, and then the tables of runs that its longest motion needs.
-fn search_decoded(
-    file: &[u8],
-    sizes: Sizes,
-    board: &[u8],
-    trip: Trip,
-    ends: &[u8; TICKS],
-    states: &mut [u16],
-    motions: &mut [u16],
-    lists: &mut [u16],
-    known: &mut [u8],
-    grown: &mut [u64],
-    allowed: &mut [u64],
-    reached: &mut [u64],
-    path: &mut [u16; CODE_LIMIT],
-) -> Traced
-    requires { ⌜ Possible (now file) (now board) sizes trip (now ends) ⌝ }
-    requires { ⌜ (sizes .states * 2 ≤ length (now states)) × (sizes .motions * 5 ≤ length (now motions)) ⌝ }
-    requires { ⌜ Scratch sizes (length (now lists)) (length (now known)) (length (now grown)) (length (now allowed)) (length (now reached)) ⌝ }
-    requires { ⌜ ((j : ℕ) → at (now reached) j ≡ false) ⌝ }
-    ensures { λ r. ⌜ Planned (routeOn (now (file .entry)) (now (board .entry)) trip) (now (path .exit)) r ⌝ }
-{
-    search_site::decode_states(file, sizes.states, states);
-    search_site::decode_motions(file, sizes.start, sizes.motions, motions);
-    let longest = search_arrivals::longest_span(motions, sizes.motions);
-    let tables = search_runs::table_of(longest + 1) + 1;
-    search_rows(
-        file,
-        sizes,
-        board,
-        trip,
-        ends,
-        states,
-        motions,
-        tables,
-        lists,
-        known,
-        grown,
-        allowed,
-        reached,
-        path,
-    )
-}
 
 fn site_small(
     file: &[u8],
@@ -415,9 +109,12 @@ fn site_small(
     board: &[u8],
     trip: Trip,
     ends: &[u8; TICKS],
+    tables: usize,
+    tab: &mut [u64],
     path: &mut [u16; CODE_LIMIT],
 ) -> Traced
-    requires { ⌜ Possible (now file) (now board) sizes trip (now ends) ⌝ }
+    requires { ⌜ Possible (now file) (now board) sizes trip (now ends) × Needed (now file) sizes tables ⌝ }
+    requires { ⌜ TabRoom sizes tables (length (now tab)) × ((j : ℕ) → at (now tab) j ≡ false) ⌝ }
     requires { ⌜ (sizes .states ≤ smallStates) × (sizes .motions ≤ smallMotions) ⌝ }
     ensures { λ r. ⌜ Planned (routeOn (now (file .entry)) (now (board .entry)) trip) (now (path .exit)) r ⌝ }
 {
@@ -428,12 +125,13 @@ fn site_small(
     let mut grown = [0u64; SMALL_STATES];
     let mut allowed = [0u64; SMALL_MOTIONS * BLOCK_WORDS];
     let mut reached = [0u64; SMALL_STATES * ROW_WORDS];
-    search_decoded(
+    search_in(
         file,
         sizes,
         board,
         trip,
         ends,
+        tables,
         &mut states,
         &mut motions,
         &mut lists,
@@ -441,6 +139,7 @@ fn site_small(
         &mut grown,
         &mut allowed,
         &mut reached,
+        tab,
         path,
     )
 }
@@ -451,9 +150,12 @@ fn site_middle(
     board: &[u8],
     trip: Trip,
     ends: &[u8; TICKS],
+    tables: usize,
+    tab: &mut [u64],
     path: &mut [u16; CODE_LIMIT],
 ) -> Traced
-    requires { ⌜ Possible (now file) (now board) sizes trip (now ends) ⌝ }
+    requires { ⌜ Possible (now file) (now board) sizes trip (now ends) × Needed (now file) sizes tables ⌝ }
+    requires { ⌜ TabRoom sizes tables (length (now tab)) × ((j : ℕ) → at (now tab) j ≡ false) ⌝ }
     requires { ⌜ (sizes .states ≤ middleStates) × (sizes .motions ≤ middleMotions) ⌝ }
     ensures { λ r. ⌜ Planned (routeOn (now (file .entry)) (now (board .entry)) trip) (now (path .exit)) r ⌝ }
 {
@@ -464,12 +166,13 @@ fn site_middle(
     let mut grown = [0u64; MIDDLE_STATES];
     let mut allowed = [0u64; MIDDLE_MOTIONS * BLOCK_WORDS];
     let mut reached = [0u64; MIDDLE_STATES * ROW_WORDS];
-    search_decoded(
+    search_in(
         file,
         sizes,
         board,
         trip,
         ends,
+        tables,
         &mut states,
         &mut motions,
         &mut lists,
@@ -477,6 +180,7 @@ fn site_middle(
         &mut grown,
         &mut allowed,
         &mut reached,
+        tab,
         path,
     )
 }
@@ -487,9 +191,12 @@ fn site_wide(
     board: &[u8],
     trip: Trip,
     ends: &[u8; TICKS],
+    tables: usize,
+    tab: &mut [u64],
     path: &mut [u16; CODE_LIMIT],
 ) -> Traced
-    requires { ⌜ Possible (now file) (now board) sizes trip (now ends) ⌝ }
+    requires { ⌜ Possible (now file) (now board) sizes trip (now ends) × Needed (now file) sizes tables ⌝ }
+    requires { ⌜ TabRoom sizes tables (length (now tab)) × ((j : ℕ) → at (now tab) j ≡ false) ⌝ }
     requires { ⌜ (sizes .states ≤ wideStates) × (sizes .motions ≤ wideMotions) ⌝ }
     ensures { λ r. ⌜ Planned (routeOn (now (file .entry)) (now (board .entry)) trip) (now (path .exit)) r ⌝ }
 {
@@ -500,12 +207,13 @@ fn site_wide(
     let mut grown = [0u64; WIDE_STATES];
     let mut allowed = [0u64; WIDE_MOTIONS * BLOCK_WORDS];
     let mut reached = [0u64; WIDE_STATES * ROW_WORDS];
-    search_decoded(
+    search_in(
         file,
         sizes,
         board,
         trip,
         ends,
+        tables,
         &mut states,
         &mut motions,
         &mut lists,
@@ -513,6 +221,7 @@ fn site_wide(
         &mut grown,
         &mut allowed,
         &mut reached,
+        tab,
         path,
     )
 }
@@ -523,9 +232,12 @@ fn site_most(
     board: &[u8],
     trip: Trip,
     ends: &[u8; TICKS],
+    tables: usize,
+    tab: &mut [u64],
     path: &mut [u16; CODE_LIMIT],
 ) -> Traced
-    requires { ⌜ Possible (now file) (now board) sizes trip (now ends) ⌝ }
+    requires { ⌜ Possible (now file) (now board) sizes trip (now ends) × Needed (now file) sizes tables ⌝ }
+    requires { ⌜ TabRoom sizes tables (length (now tab)) × ((j : ℕ) → at (now tab) j ≡ false) ⌝ }
     ensures { λ r. ⌜ Planned (routeOn (now (file .entry)) (now (board .entry)) trip) (now (path .exit)) r ⌝ }
 {
     let mut states = [0u16; STATES * STATE_SIZE];
@@ -535,12 +247,13 @@ fn site_most(
     let mut grown = [0u64; STATES];
     let mut allowed = [0u64; MOTIONS * BLOCK_WORDS];
     let mut reached = [0u64; STATES * ROW_WORDS];
-    search_decoded(
+    search_in(
         file,
         sizes,
         board,
         trip,
         ends,
+        tables,
         &mut states,
         &mut motions,
         &mut lists,
@@ -548,6 +261,7 @@ fn site_most(
         &mut grown,
         &mut allowed,
         &mut reached,
+        tab,
         path,
     )
 }
@@ -559,21 +273,119 @@ fn search_sized(
     board: &[u8],
     trip: Trip,
     ends: &[u8; TICKS],
+    tables: usize,
+    tab: &mut [u64],
     path: &mut [u16; CODE_LIMIT],
 ) -> Traced
-    requires { ⌜ Possible (now file) (now board) sizes trip (now ends) ⌝ }
+    requires { ⌜ Possible (now file) (now board) sizes trip (now ends) × Needed (now file) sizes tables ⌝ }
+    requires { ⌜ TabRoom sizes tables (length (now tab)) × ((j : ℕ) → at (now tab) j ≡ false) ⌝ }
     ensures { λ r. ⌜ Planned (routeOn (now (file .entry)) (now (board .entry)) trip) (now (path .exit)) r ⌝ }
 {
     if (sizes.states <= SMALL_STATES) & (sizes.motions <= SMALL_MOTIONS) {
-        return site_small(file, sizes, board, trip, ends, path);
+        return site_small(file, sizes, board, trip, ends, tables, tab, path);
     }
     if (sizes.states <= MIDDLE_STATES) & (sizes.motions <= MIDDLE_MOTIONS) {
-        return site_middle(file, sizes, board, trip, ends, path);
+        return site_middle(file, sizes, board, trip, ends, tables, tab, path);
     }
     if (sizes.states <= WIDE_STATES) & (sizes.motions <= WIDE_MOTIONS) {
-        return site_wide(file, sizes, board, trip, ends, path);
+        return site_wide(file, sizes, board, trip, ends, tables, tab, path);
     }
-    site_most(file, sizes, board, trip, ends, path)
+    site_most(file, sizes, board, trip, ends, tables, tab, path)
+}
+
+// ---- the tables of runs, in four sizes; one word more than the rows have, which a shift by nothing reads
+
+fn rows_small(
+    file: &[u8],
+    sizes: Sizes,
+    board: &[u8],
+    trip: Trip,
+    ends: &[u8; TICKS],
+    tables: usize,
+    path: &mut [u16; CODE_LIMIT],
+) -> Traced
+    requires { ⌜ Possible (now file) (now board) sizes trip (now ends) × Needed (now file) sizes tables ⌝ }
+    requires { ⌜ tables * sizes .cells ≤ smallRows ⌝ }
+    ensures { λ r. ⌜ Planned (routeOn (now (file .entry)) (now (board .entry)) trip) (now (path .exit)) r ⌝ }
+{
+    let mut tab = [0u64; SMALL_ROWS * WINDOW_WORDS + 1];
+    search_sized(file, sizes, board, trip, ends, tables, &mut tab, path)
+}
+
+fn rows_middle(
+    file: &[u8],
+    sizes: Sizes,
+    board: &[u8],
+    trip: Trip,
+    ends: &[u8; TICKS],
+    tables: usize,
+    path: &mut [u16; CODE_LIMIT],
+) -> Traced
+    requires { ⌜ Possible (now file) (now board) sizes trip (now ends) × Needed (now file) sizes tables ⌝ }
+    requires { ⌜ tables * sizes .cells ≤ middleRows ⌝ }
+    ensures { λ r. ⌜ Planned (routeOn (now (file .entry)) (now (board .entry)) trip) (now (path .exit)) r ⌝ }
+{
+    let mut tab = [0u64; MIDDLE_ROWS * WINDOW_WORDS + 1];
+    search_sized(file, sizes, board, trip, ends, tables, &mut tab, path)
+}
+
+fn rows_wide(
+    file: &[u8],
+    sizes: Sizes,
+    board: &[u8],
+    trip: Trip,
+    ends: &[u8; TICKS],
+    tables: usize,
+    path: &mut [u16; CODE_LIMIT],
+) -> Traced
+    requires { ⌜ Possible (now file) (now board) sizes trip (now ends) × Needed (now file) sizes tables ⌝ }
+    requires { ⌜ tables * sizes .cells ≤ wideRows ⌝ }
+    ensures { λ r. ⌜ Planned (routeOn (now (file .entry)) (now (board .entry)) trip) (now (path .exit)) r ⌝ }
+{
+    let mut tab = [0u64; WIDE_ROWS * WINDOW_WORDS + 1];
+    search_sized(file, sizes, board, trip, ends, tables, &mut tab, path)
+}
+
+fn rows_most(
+    file: &[u8],
+    sizes: Sizes,
+    board: &[u8],
+    trip: Trip,
+    ends: &[u8; TICKS],
+    tables: usize,
+    path: &mut [u16; CODE_LIMIT],
+) -> Traced
+    requires { ⌜ Possible (now file) (now board) sizes trip (now ends) × Needed (now file) sizes tables ⌝ }
+    ensures { λ r. ⌜ Planned (routeOn (now (file .entry)) (now (board .entry)) trip) (now (path .exit)) r ⌝ }
+{
+    let mut tab = [0u64; ROWS * WINDOW_WORDS + 1];
+    search_sized(file, sizes, board, trip, ends, tables, &mut tab, path)
+}
+
+// The smallest of them with room for the tables.
+fn search_rows(
+    file: &[u8],
+    sizes: Sizes,
+    board: &[u8],
+    trip: Trip,
+    ends: &[u8; TICKS],
+    tables: usize,
+    path: &mut [u16; CODE_LIMIT],
+) -> Traced
+    requires { ⌜ Possible (now file) (now board) sizes trip (now ends) × Needed (now file) sizes tables ⌝ }
+    ensures { λ r. ⌜ Planned (routeOn (now (file .entry)) (now (board .entry)) trip) (now (path .exit)) r ⌝ }
+{
+    let rows = tables * sizes.cells;
+    if rows <= SMALL_ROWS {
+        return rows_small(file, sizes, board, trip, ends, tables, path);
+    }
+    if rows <= MIDDLE_ROWS {
+        return rows_middle(file, sizes, board, trip, ends, tables, path);
+    }
+    if rows <= WIDE_ROWS {
+        return rows_wide(file, sizes, board, trip, ends, tables, path);
+    }
+    rows_most(file, sizes, board, trip, ends, tables, path)
 }
 
 // The plan with the least arrival from which the tug can unload, its steps in `path`. Where the start is held, or the tug can nowhere unload
@@ -605,5 +417,7 @@ pub fn search(
     if !search_ends::some_end(&ends, tick, sizes.horizon) {
         return Traced::Missing;
     }
-    search_sized(file, sizes, board, trip, &ends, path)
+    let longest = search_site::longest_span(file, sizes.start, sizes.motions);
+    let tables = search_runs::table_of(longest + 1) + 1;
+    search_rows(file, sizes, board, trip, &ends, tables, path)
 }

@@ -74,5 +74,11 @@ pub record MotionDecoded (file : List ℕ) (m : ℕ) (r : ReadMotion.Motion) : T
   pub shows : MotionIs file (motionAt (siteOf file) m) r
   pub span : r .span < 256
 
+-- a span that a byte holds and that none of the first n motions exceeds
+pub record LongestTo (file : List ℕ) (n span : ℕ) : Type 0 where
+  pub some : 1 ≤ span
+  pub small : span ≤ 255
+  pub longest : (m : ℕ) → m < n → motionAt (siteOf file) m .span ≤ span
+
 abbrev pub MotionsDecoded : List ℕ → List ℕ → Type 0
 MotionsDecoded file mv = (m : ℕ) → m < length (siteOf file .motions) → MotionDecoded file m (motionIn mv m)

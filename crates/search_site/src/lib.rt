@@ -3,13 +3,13 @@ use search_sizes::MOTION_SIZE;
 use search_sizes::STATE_SIZE;
 use site_read::Motion;
 ghost use mathlib.Core.Path.{_≡_};
-ghost use Prim.Native.Nat.{_+_, _*_, _≤_, _<_};
+ghost use Prim.Native.Nat.{ℕ, _+_, _*_, _≤_, _<_};
 ghost use lib.ListN.{length};
 ghost use Rattle.meaning.specs.Answers.{accepted};
 ghost use Rattle.meaning.specs.Site.{siteOf, readSite};
 ghost use Rattle.site_layout.specs.Laid.{statePlace};
 ghost use Rattle.search_site.specs.Arrays.{States, Motions, cellAt, speedAt, fromAt, toAt, spanAt, placeAt, countAt};
-ghost use Rattle.search_site.specs.Decoded.{StatesDecoded, setTwo, FitsU16, setMotion, MotionsDecoded};
+ghost use Rattle.search_site.specs.Decoded.{StatesDecoded, setTwo, FitsU16, setMotion, MotionsDecoded, LongestTo};
 
 // A number of the arrays, as an index.
 pub fn number(x: u16) -> usize
@@ -131,4 +131,29 @@ pub fn decode_motions(file: &[u8], start: usize, count: usize, motions: &mut [u1
         at = fields::next_field(file, at);
         m += 1;
     }
+}
+
+fn larger(a: usize, b: usize) -> usize
+    ensures { λ r. ⌜ (a ≤ r) × (b ≤ r) ⌝ }
+    ensures { λ r. ⌜ ((n : ℕ) → a ≤ n → b ≤ n → r ≤ n) ⌝ }
+{
+    if a < b { b } else { a }
+}
+
+// A span that is no shorter than that of each of the `count` motions, which start at `start`.
+pub fn longest_span(file: &[u8], start: usize, count: usize) -> usize
+    requires { ⌜ (readSite (now file) ≡ accepted (siteOf (now file))) × (start ≡ statePlace (length (siteOf (now file) .states))) ⌝ }
+    requires { ⌜ count ≡ length (siteOf (now file) .motions) ⌝ }
+    ensures { λ r. ⌜ LongestTo (now (file .entry)) count r ⌝ }
+{
+    let mut most = 1;
+    let mut at = start;
+    let mut m = 0;
+    while m < count {
+        let motion = site_read::read_motion(file, at);
+        most = larger(most, motion.span as usize);
+        at = fields::next_field(file, at);
+        m += 1;
+    }
+    most
 }

@@ -1,17 +1,17 @@
 -- Halls of more than 255 cells: a cell's number in two bytes, the largest sites, and lengths from before.
 -- Assumes nothing.
-use Prim.Native.Nat.{ℕ, _/_, _%_}
+use Prim.Native.Nat.{ℕ}
 use mathlib.Core.Path.{_≡_}
 use mathlib.Core.List.{List, [], _∷_, _++_}
-use lib.ListN.{length, take, replicate}
+use lib.ListN.{take, replicate}
 use Rattle.meaning.specs.Basics.{put16}
 use Rattle.meaning.specs.Fields.{Field, fieldsBytes}
 use Rattle.meaning.specs.Site.{readSite}
 use Rattle.meaning.specs.Plan.{node}
-use Rattle.meaning.specs.Calls.{route, post, close, withdraw, PublicCall, opening, interval, listed, lends, Done, meant}
+use Rattle.meaning.specs.Calls.{route, post, close, PublicCall, opening, interval, listed, lends, Done, meant}
 use Rattle.meaning.specs.Demands.{lightOut}
 use Rattle.meaning.specs.Day.{dayLines}
-use Rattle.worked.specs.FourInLine.{numberOf, boardOf, bareSite, staying, sized, line}
+use Rattle.worked.specs.FourInLine.{numberOf, boardOf, bareSite, staying, line}
 
 -- 300 cells and the ticks 0 to 3; a tug can stand on the cells 0 and 256, and motion 0 leads from the one to the other in one tick
 abbrev pub hall : List ℕ

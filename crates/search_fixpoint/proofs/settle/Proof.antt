@@ -1,6 +1,6 @@
 -- `search_fixpoint::settle` meets its contract: where no growth is noted, waits and motions are closed; a turn sets a bit, or is the last one.
 -- Assumes nothing.
-use Prim.Native.Nat.{ℕ, _<_}
+use Prim.Native.Nat.{_<_}
 use native.Mathlib.Omega.{arith}
 use mathlib.Core.Path.{_≡_, refl, _∙_}
 use lib.ListN.{length}

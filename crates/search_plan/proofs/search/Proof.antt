@@ -3,12 +3,14 @@
 use native.Mathlib.Omega.{arith}
 use borrow.Author.Needs.{needs}
 use borrow.Author.Tests.{not-true, not-false}
-use mathlib.Core.Path.{_≡_, sym, _∙_}
+use Prim.Native.Nat.{ℕ, _+_}
+use mathlib.Core.Path.{_≡_, sym, ap, _∙_}
+use Rattle.site.specs.declared.Sizes.{Sizes}
 use Rattle.meaning.specs.Site.{siteOf, cellOf}
 use Rattle.meaning.specs.Board.{free}
 use Rattle.site_read.proofs.Laws.{read-laid}
 use Rattle.search_reach.specs.Explored.{EndsRight}
-use Rattle.search_plan.proofs.PartsLaws.{same-states, ranges, row, start-is, ends-in, start-held, never-unloads}
+use Rattle.search_plan.proofs.PartsLaws.{same-states, same-motions, ranges, row, start-is, ends-in, start-held, never-unloads, needed}
 use Rattle.search_plan.proofs.search.Statement.{statement}
 use Rattle.search_plan.proofs.search.Tie as tie
 
@@ -81,15 +83,34 @@ returns-2 c =
     let b = asked (unloading e) in
     never-unloads _ (b .args .board .now) _ _ (b .pre) (e .ends-of .result) (ends-there e) (c .before .some-end .ensures (not-true _ (c .if2 .taken))) _
 
-search-sized-requires : tie.Need-search-sized-requires
-search-sized-requires c κs =
-    let e = c .before .before .before .before .before in
+longest-span-requires : tie.Need-longest-span-requires
+longest-span-requires c κs =
+    let b = asked (unloading (c .before .before .before)) in
+    let q = b .pre in
+    ((q .ready .read, ap (λ (k : Sizes). k .start) (q .ready .sizes)), same-motions _ (b .args .board .now) _ _ q)
+
+add-table-of : tie.Need-add-table-of
+add-table-of c = search needs
+
+table-of-requires : tie.Need-table-of-requires
+table-of-requires c κs = search needs
+
+add-tables : tie.Need-add-tables
+add-tables c = search needs
+
+search-rows-requires : tie.Need-search-rows-requires
+search-rows-requires c κs =
+    let spans = c .before .before .before in
+    let table = c .before .before .table-of .ensures in
+    let e = spans .before .before .before .before in
     let there = unloading e in
-    let b = asked there in
-    record { asked = b .pre; start-free = sym (start-there there) ∙ not-false _ (e .before .before .before .before .if1 .left); ends-right = ends-there e }
+    let b = asked there in (
+      record { asked = b .pre; start-free = sym (start-there there) ∙ not-false _ (e .before .before .before .before .if1 .left); ends-right = ends-there e },
+      needed (b .args .file .now) (b .args .sizes) _ _ (spans .longest-span .ensures) (ap (λ (n : ℕ). n + 1) (table .0)) (omega (arith, table .0, table .1)),
+    )
 
 returns-3 : tie.Need-returns-3
-returns-3 c = c .search-sized .ensures
+returns-3 c = c .search-rows .ensures
 
 pub search-spec : {M : Type 1} → statement M
 search-spec =
@@ -106,5 +127,9 @@ search-spec =
     ends-of-requires
     some-end-requires
     returns-2
-    search-sized-requires
+    longest-span-requires
+    add-table-of
+    table-of-requires
+    add-tables
+    search-rows-requires
     returns-3)

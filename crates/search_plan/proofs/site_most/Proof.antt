@@ -8,56 +8,59 @@ use Rattle.search_plan.proofs.PartsLaws.{ranges, scratch-of, blank}
 use Rattle.search_plan.proofs.site_most.Statement.{statement}
 use Rattle.search_plan.proofs.site_most.Tie as tie
 
-slice-aggregate-search-decoded : tie.Need-slice-aggregate-search-decoded
-slice-aggregate-search-decoded c = search needs
+slice-aggregate-search-in : tie.Need-slice-aggregate-search-in
+slice-aggregate-search-in c = search needs
 
-slice-aggregate-search-decoded-2 : tie.Need-slice-aggregate-search-decoded-2
-slice-aggregate-search-decoded-2 c = search needs
+slice-aggregate-search-in-2 : tie.Need-slice-aggregate-search-in-2
+slice-aggregate-search-in-2 c = search needs
 
-slice-aggregate-search-decoded-3 : tie.Need-slice-aggregate-search-decoded-3
-slice-aggregate-search-decoded-3 c = search needs
+slice-aggregate-search-in-3 : tie.Need-slice-aggregate-search-in-3
+slice-aggregate-search-in-3 c = search needs
 
-slice-aggregate-search-decoded-4 : tie.Need-slice-aggregate-search-decoded-4
-slice-aggregate-search-decoded-4 c = search needs
+slice-aggregate-search-in-4 : tie.Need-slice-aggregate-search-in-4
+slice-aggregate-search-in-4 c = search needs
 
-slice-aggregate-search-decoded-5 : tie.Need-slice-aggregate-search-decoded-5
-slice-aggregate-search-decoded-5 c = search needs
+slice-aggregate-search-in-5 : tie.Need-slice-aggregate-search-in-5
+slice-aggregate-search-in-5 c = search needs
 
-slice-aggregate-search-decoded-6 : tie.Need-slice-aggregate-search-decoded-6
-slice-aggregate-search-decoded-6 c = search needs
+slice-aggregate-search-in-6 : tie.Need-slice-aggregate-search-in-6
+slice-aggregate-search-in-6 c = search needs
 
-slice-aggregate-search-decoded-7 : tie.Need-slice-aggregate-search-decoded-7
-slice-aggregate-search-decoded-7 c = search needs
+slice-aggregate-search-in-7 : tie.Need-slice-aggregate-search-in-7
+slice-aggregate-search-in-7 c = search needs
 
-search-decoded-requires : tie.Need-search-decoded-requires
-search-decoded-requires c κs =
-    let b = c .before .before .before .before .before .before .before .before .before .before in
-    let p = b .pre in
-    let r = ranges _ (b .args .board .now) _ _ (p .asked) in (
-      p,
+search-in-requires : tie.Need-search-in-requires
+search-in-requires c κs =
+    let b = c .before .before .before .before .before .before .before .before .before .before .before .before in
+    let r = ranges _ (b .args .board .now) _ _ (b .pre .0 .0 .asked) in (
+      b .pre .0,
       (
         (omega (arith, length-replicate {A = ℕ} 2560 0, r .states-few), omega (arith, length-replicate {A = ℕ} 20000 0, r .motions-few)),
         (
           scratch-of _ 1280 4000 _ _ _ _ _ (r .states-few) (r .motions-few) (length-replicate {A = ℕ} 5280 0) (length-replicate {A = ℕ} 4000 0) (length-replicate {A = ℕ} 1280 0)
               (length-replicate {A = ℕ} 16000 0) (length-replicate {A = ℕ} 25600 0),
-          blank 25600,
+          (b .pre .1, blank 25600),
         ),
       ),
     )
 
+same-length : tie.Need-same-length
+same-length c = c .before .before .before .before .before .before .before .before .before .search-in .kept .1 .1 .1 .1 .1 .1 .1 .1 .1 .1 .1 .1 .1 .0
+
 returns : tie.Need-returns
-returns c = c .before .before .before .before .before .before .before .search-decoded .ensures
+returns c = c .before .before .before .before .before .before .before .before .before .search-in .ensures
 
 pub site-most-spec : {M : Type 1} → statement M
 site-most-spec =
     tie.close
     (tie.spec
-    slice-aggregate-search-decoded
-    slice-aggregate-search-decoded-2
-    slice-aggregate-search-decoded-3
-    slice-aggregate-search-decoded-4
-    slice-aggregate-search-decoded-5
-    slice-aggregate-search-decoded-6
-    slice-aggregate-search-decoded-7
-    search-decoded-requires
+    slice-aggregate-search-in
+    slice-aggregate-search-in-2
+    slice-aggregate-search-in-3
+    slice-aggregate-search-in-4
+    slice-aggregate-search-in-5
+    slice-aggregate-search-in-6
+    slice-aggregate-search-in-7
+    search-in-requires
+    same-length
     returns)

@@ -8,55 +8,58 @@ use Rattle.search_plan.proofs.PartsLaws.{scratch-of, blank}
 use Rattle.search_plan.proofs.site_small.Statement.{statement}
 use Rattle.search_plan.proofs.site_small.Tie as tie
 
-slice-aggregate-search-decoded : tie.Need-slice-aggregate-search-decoded
-slice-aggregate-search-decoded c = search needs
+slice-aggregate-search-in : tie.Need-slice-aggregate-search-in
+slice-aggregate-search-in c = search needs
 
-slice-aggregate-search-decoded-2 : tie.Need-slice-aggregate-search-decoded-2
-slice-aggregate-search-decoded-2 c = search needs
+slice-aggregate-search-in-2 : tie.Need-slice-aggregate-search-in-2
+slice-aggregate-search-in-2 c = search needs
 
-slice-aggregate-search-decoded-3 : tie.Need-slice-aggregate-search-decoded-3
-slice-aggregate-search-decoded-3 c = search needs
+slice-aggregate-search-in-3 : tie.Need-slice-aggregate-search-in-3
+slice-aggregate-search-in-3 c = search needs
 
-slice-aggregate-search-decoded-4 : tie.Need-slice-aggregate-search-decoded-4
-slice-aggregate-search-decoded-4 c = search needs
+slice-aggregate-search-in-4 : tie.Need-slice-aggregate-search-in-4
+slice-aggregate-search-in-4 c = search needs
 
-slice-aggregate-search-decoded-5 : tie.Need-slice-aggregate-search-decoded-5
-slice-aggregate-search-decoded-5 c = search needs
+slice-aggregate-search-in-5 : tie.Need-slice-aggregate-search-in-5
+slice-aggregate-search-in-5 c = search needs
 
-slice-aggregate-search-decoded-6 : tie.Need-slice-aggregate-search-decoded-6
-slice-aggregate-search-decoded-6 c = search needs
+slice-aggregate-search-in-6 : tie.Need-slice-aggregate-search-in-6
+slice-aggregate-search-in-6 c = search needs
 
-slice-aggregate-search-decoded-7 : tie.Need-slice-aggregate-search-decoded-7
-slice-aggregate-search-decoded-7 c = search needs
+slice-aggregate-search-in-7 : tie.Need-slice-aggregate-search-in-7
+slice-aggregate-search-in-7 c = search needs
 
-search-decoded-requires : tie.Need-search-decoded-requires
-search-decoded-requires c κs =
-    let b = c .before .before .before .before .before .before .before .before .before .before in
-    let p = b .pre .0 in (
-      p,
+search-in-requires : tie.Need-search-in-requires
+search-in-requires c κs =
+    let b = c .before .before .before .before .before .before .before .before .before .before .before .before in (
+      b .pre .0,
       (
-        (omega (arith, length-replicate {A = ℕ} 64 0, b .pre .1 .0), omega (arith, length-replicate {A = ℕ} 320 0, b .pre .1 .1)),
+        (omega (arith, length-replicate {A = ℕ} 64 0, b .pre .1 .1 .0), omega (arith, length-replicate {A = ℕ} 320 0, b .pre .1 .1 .1)),
         (
-          scratch-of _ 32 64 _ _ _ _ _ (b .pre .1 .0) (b .pre .1 .1) (length-replicate {A = ℕ} 96 0) (length-replicate {A = ℕ} 64 0) (length-replicate {A = ℕ} 32 0)
+          scratch-of _ 32 64 _ _ _ _ _ (b .pre .1 .1 .0) (b .pre .1 .1 .1) (length-replicate {A = ℕ} 96 0) (length-replicate {A = ℕ} 64 0) (length-replicate {A = ℕ} 32 0)
               (length-replicate {A = ℕ} 256 0) (length-replicate {A = ℕ} 640 0),
-          blank 640,
+          (b .pre .1 .0, blank 640),
         ),
       ),
     )
 
+same-length : tie.Need-same-length
+same-length c = c .before .before .before .before .before .before .before .before .before .search-in .kept .1 .1 .1 .1 .1 .1 .1 .1 .1 .1 .1 .1 .1 .0
+
 returns : tie.Need-returns
-returns c = c .before .before .before .before .before .before .before .search-decoded .ensures
+returns c = c .before .before .before .before .before .before .before .before .before .search-in .ensures
 
 pub site-small-spec : {M : Type 1} → statement M
 site-small-spec =
     tie.close
     (tie.spec
-    slice-aggregate-search-decoded
-    slice-aggregate-search-decoded-2
-    slice-aggregate-search-decoded-3
-    slice-aggregate-search-decoded-4
-    slice-aggregate-search-decoded-5
-    slice-aggregate-search-decoded-6
-    slice-aggregate-search-decoded-7
-    search-decoded-requires
+    slice-aggregate-search-in
+    slice-aggregate-search-in-2
+    slice-aggregate-search-in-3
+    slice-aggregate-search-in-4
+    slice-aggregate-search-in-5
+    slice-aggregate-search-in-6
+    slice-aggregate-search-in-7
+    search-in-requires
+    same-length
     returns)
