@@ -108,7 +108,7 @@ static inline const char *dispatch_text(int number) {
 
 /* The most bytes of stack that a call takes, also to refuse. A thread needs some more for itself: 16 KiB are plenty. */
 #define DISPATCH_STACK_ROUTE 1000000 /* dispatch_route */
-#define DISPATCH_STACK_LIGHT 69000   /* dispatch_audit and dispatch_post */
+#define DISPATCH_STACK_LIGHT 66000   /* dispatch_audit and dispatch_post */
 #define DISPATCH_STACK 1000          /* each of the others */
 
 #ifdef __cplusplus
