@@ -435,7 +435,7 @@ fn desk_and_plain_program_agree() {
             _ => tally.any_file(&mut rng, size),
         }
         // Sites at the limits, now and then: each call on them costs as much as hundreds of others.
-        if round % 1_600 == 0 {
+        if round % 400 == 0 {
             tally.any_board(&mut rng, Size::Large);
         }
         if round % 2_000 == 0 {
