@@ -21,7 +21,7 @@ use Rattle.meaning.proofs.IntervalLaws.{intervals-right}
 
 -- a site that has the cell, and of which nothing else matters
 abbrev pub plain : ℕ → ℕ → ℕ → Site
-plain horizon margin cell = record { horizon = horizon; cells = suc cell; margin = margin; states = []; motions = [] }
+plain horizon margin cell = record { horizon = horizon; cells = suc cell; margin = margin; states = []; motions = []; centres = [] }
 
 pub free-same : (site : Site) (board : List ℕ) (horizon margin c : ℕ) → site .horizon ≡ horizon → site .margin ≡ margin → c < site .cells
     → free (plain horizon margin c) board c ≡ free site board c

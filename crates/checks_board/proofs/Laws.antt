@@ -51,7 +51,7 @@ ready-row {file} {room} r cell tick hc ht =
 
 -- a site of which nothing but the horizon matters
 abbrev pub bare : ℕ → Site
-bare horizon = record { horizon = horizon; cells = 0; margin = 0; states = []; motions = [] }
+bare horizon = record { horizon = horizon; cells = 0; margin = 0; states = []; motions = []; centres = [] }
 
 -- ---- a run that is named
 

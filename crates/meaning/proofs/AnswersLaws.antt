@@ -11,6 +11,7 @@ use Rattle.meaning.specs.Basics.{all, Each, Some, here, there}
 use Rattle.meaning.specs.Answers.{Refusal, lowest, RiseFrom, accepted, answer}
 use Rattle.meaning.specs.Site.{Site, siteRefusals}
 use Rattle.meaning.specs.Calls.{Call, route, audit, post, close, withdraw, PublicCall, opening, interval, listed, View, bytesView, Room, Lent, roomOf, routeRefusals, lightRefusals, closeRefusals, withdrawRefusals, callRefusals, intervalRefusals, travelRefusals, laterRefusals, refusals}
+use Rattle.meaning.specs.Pictures.{pictureRefusals, drawRefusals}
 use Rattle.meaning.specs.Laws.{LowestRight, RefusalsRise}
 use Rattle.meaning.proofs.BasicsLaws.{decide, all-head, all-tail, each-map}
 
@@ -138,9 +139,13 @@ pub all-rise : (file : List ℕ) (l : Lent) (q : PublicCall) → RiseFrom 0 (ref
 unfolding refusals siteRefusals
 all-rise file l q = (omega arith, (omega arith, (omega arith, (omega arith, (omega arith, (omega arith, (omega arith, later-rise _ l q)))))))
 
+draw-rises : (file light : List ℕ) (k : ℕ) → RiseFrom 0 (drawRefusals file light k)
+unfolding drawRefusals siteRefusals pictureRefusals
+draw-rises file light k = (omega arith, (omega arith, (omega arith, (omega arith, (omega arith, (omega arith, (omega arith, (omega arith, (omega arith, tt)))))))))
+
 travel-rises : (d : ℕ) → RiseFrom 0 (travelRefusals d)
 unfolding travelRefusals
 travel-rises d = (omega arith, tt)
 
 pub refusals-rise : RefusalsRise
-refusals-rise = record { rise = all-rise; travel = travel-rises }
+refusals-rise = record { rise = all-rise; travel = travel-rises; draw = draw-rises }

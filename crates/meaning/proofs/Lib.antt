@@ -27,4 +27,5 @@ pub mod SiteRefusalLaws
 pub mod AreaLaws
 pub mod DayLaws
 pub mod DayPrintsLaws
+pub mod PictureLaws
 pub mod Theorems

@@ -76,7 +76,7 @@ module _ (site : Site) where
     back = each-all (StepKnown site) (stepNamed site) (λ p. tells-step p .back) ps;
   }
 
-  tells-light : (x : Light) → Tells (lightNamed site x) (LightKnown site x)
+  pub tells-light : (x : Light) → Tells (lightNamed site x) (LightKnown site x)
   unfolding lightNamed
   tells-light x = tells-three (tells-trip (startOf x) (x .goal) (x .dwell)) (tells-le (x .arrival) (site .horizon)) (tells-steps (x .steps))
 
@@ -104,12 +104,16 @@ module _ (site : Site) where
 
 -- ---- 8
 
-tells-is-light : (light : List ℕ) → Bytes light → Tells (isLight light) ((y : Light) × LightBytes light y)
+-- bytes that are a light's are read as that light
+pub read-light : (light : List ℕ) (x : Light) → LightBytes light x → (isLight light ≡ true) × (lightOf light ≡ x)
+read-light light x (keeps, same) = decode-some light x (ap decode (sym same) ∙ lights-right .read-back x keeps)
+
+pub tells-is-light : (light : List ℕ) → Bytes light → Tells (isLight light) ((y : Light) × LightBytes light y)
 tells-is-light light bytes = record {
   then = λ h.
       let (keeps, same) = lights-right .only-those light (lightOf light) bytes (light-decode light h) in
       (lightOf light, (keeps, same));
-  back = λ (y, (keeps, same)). decode-some light y (ap decode (sym same) ∙ lights-right .read-back y keeps) .0;
+  back = λ (y, bytes). read-light light y bytes .0;
 }
 
 -- ---- what calls see, as tests and in words
@@ -364,10 +368,6 @@ module _ (site : Site) (well : WellFormed site) (v : View) (s : Sight) (sees : S
         free-pairs = λ c t held. sees .free-for c t .then (free-pair (s .free) (lightPairs site x) c t all-free (held-pairs site (startOf x) (x .steps) (goalOf x) (x .dwell) c t held));
         valid = holds (tells-plan x) h17;
       }
-
-  -- bytes that are a light's are read as that light
-  read-light : (light : List ℕ) (x : Light) → LightBytes light x → (isLight light ≡ true) × (lightOf light ≡ x)
-  read-light light x (keeps, same) = decode-some light x (ap decode (sym same) ∙ lights-right .read-back x keeps)
 
   accepted-light : (light : List ℕ) (x : Light) → LightBytes light x → LightAccepted site s x → Each Passed (lightRefusals site v light)
   unfolding lightRefusals

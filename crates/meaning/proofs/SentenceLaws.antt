@@ -2,7 +2,8 @@
 -- Assumes nothing.
 use Prim.Native.Nat.{ℕ, _≤_, _<_}
 use mathlib.Core.Path.{_≡_, refl, sym, ap, _∙_}
-use mathlib.Core.Bool.{Bool, true, false, not, false≢true, true≢false}
+use mathlib.Core.Logic.{_⊎_, inl, inr}
+use mathlib.Core.Bool.{Bool, true, false, not, _||_, false≢true, true≢false}
 use mathlib.Core.List.{[], _∷_}
 use lib.Dec.{leb, ltb, eqb}
 use borrow.Author.Tests.{leb-true, le-leb, ltb-true, lt-ltb, eqb-true, eq-eqb, not-true, not-false}
@@ -49,6 +50,17 @@ tells-lt a b = record { then = ltb-true a b; back = lt-ltb a b }
 
 pub tells-eq : (a b : ℕ) → Tells (eqb a b) (a ≡ b)
 tells-eq a b = record { then = eqb-true a b; back = eq-eqb a b }
+
+-- one of two
+pub tells-or : {a b : Bool} {P Q : Type 0} → Tells a P → Tells b Q → Tells (a || b) (P ⊎ Q)
+tells-or {a} {b} {P} {Q} p q = by a refl
+  where
+    by : (x : Bool) → a ≡ x → Tells (a || b) (P ⊎ Q)
+    by true e = record { then = λ h. inl (p .then e); back = λ s. rw e }
+    by false e = record {
+      then = λ h. inr (q .then (rw e at h));
+      back = λ s. rw e (elim s [ inl y ↦ absurd (true≢false (sym (p .back y) ∙ e)) | inr y ↦ q .back y ]);
+    }
 
 pub tells-two : {a b : Bool} {P Q : Type 0} → Tells a P → Tells b Q → Tells (every (a ∷ b ∷ [])) (P × Q)
 tells-two p q = record {

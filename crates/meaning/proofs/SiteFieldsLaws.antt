@@ -3,18 +3,20 @@
 use Prim.Native.Nat.{ℕ, zero, suc, _+_, _*_, _-_, _/_, _%_, _≤_, _<_, suc-le-suc}
 use native.Mathlib.Omega.{arith}
 use mathlib.Core.Path.{_≡_, refl, sym, ap, ap₂, _∙_}
-use mathlib.Core.Bool.{true, _&&_, false≢true}
+use mathlib.Core.Logic.{_⊎_, inl, inr}
+use mathlib.Core.Bool.{Bool, true, false, _&&_, _||_, false≢true}
 use mathlib.Core.List.{List, [], _∷_, _++_, map}
 use lib.ListN.{length, getD, take, drop, length-drop}
 use lib.Dec.{leb, eqb}
 use borrow.Author.Tests.{leb-true, le-leb, eqb-true, eq-eqb}
 use Rattle.meaning.specs.Limits.{horizonLimit, cellLimit, stateLimit, marginLimit, motionLimit, sweepLimit}
-use Rattle.meaning.specs.Limits.{headTag, stateTag, motionTag, headSize, stateSize, motionSize, sweepSize}
+use Rattle.meaning.specs.Limits.{headTag, stateTag, motionTag, centreTag, headSize, stateSize, motionSize, sweepSize, centreSize}
 use Rattle.meaning.specs.Basics.{all, within, Each, Bytes, u16At}
 use Rattle.meaning.specs.Fields.{Field, noField}
-use Rattle.meaning.specs.Site.{State, Sweep, Motion, Site, sweepsOf, stateOf, motionOf, headGood, isState, sweepCount, isMotion, motionsLaid, layoutGood}
+use Rattle.meaning.specs.Site.{State, Sweep, Motion, Centre, Site, sweepsOf, stateOf, motionOf, centreOf, beforeCentres, fromCentres}
+use Rattle.meaning.specs.Site.{headGood, isState, sweepCount, isMotion, motionsLaid, isCentre, centresLaid, layoutGood}
 use Rattle.meaning.specs.Refusals.{HeadField}
-use Rattle.meaning.specs.WellFormed.{WellFormed, stateField, sweepBytes, motionField, headField}
+use Rattle.meaning.specs.WellFormed.{WellFormed, stateField, sweepBytes, motionField, centreField, headField}
 use Rattle.meaning.proofs.BasicsLaws.{and-left, and-right, all-each, each-all, within-range, range-within, u16-back, u16-bytes}
 use Rattle.meaning.proofs.FieldsLaws.{bytes-drop, field-is, list-of, byte-at, put16-at}
 use Rattle.meaning.proofs.MotionLaws.{and-three}
@@ -35,6 +37,10 @@ each-mapped P Q f to (x ∷ xs) (h, hs) = (to x h, each-mapped P Q f to xs hs)
 pub each-joined : {A : Type 0} (P : A → Type 0) (xs ys : List A) → Each P xs → Each P ys → Each P (xs ++ ys)
 each-joined P [] ys h k = k
 each-joined P (x ∷ xs) ys (h, hs) k = (h, each-joined P xs ys hs k)
+
+pub each-apart : {A : Type 0} (P : A → Type 0) (xs ys : List A) → Each P (xs ++ ys) → Each P xs × Each P ys
+each-apart P [] ys h = (tt, h)
+each-apart P (x ∷ xs) ys (h, hs) = let (k, l) = each-apart P xs ys hs in ((h, k), l)
 
 pub each-drop : {A : Type 0} (P : A → Type 0) (n : ℕ) (xs : List A) → Each P xs → Each P (drop n xs)
 each-drop P zero xs h = h
@@ -181,30 +187,147 @@ motion-made m p q =
     let count : (motionSize + sweepSize * n - motionSize) / sweepSize ≡ n = omega arith in
     rw (e, count, range-within 1 sweepLimit n p q) (eq-eqb (motionSize + sweepSize * n) (motionSize + sweepSize * n) refl)
 
+-- ---- one centre
+
+abbrev pub IsCentre : Field → Type 0
+IsCentre f = isCentre f ≡ true
+
+pub centre-parts : (f : Field) → IsCentre f → (f .tag ≡ centreTag) × (length (f .value) ≡ centreSize)
+unfolding isCentre
+centre-parts f h = (
+  eqb-true (f .tag) centreTag (and-left (eqb (f .tag) centreTag) (eqb (length (f .value)) centreSize) h),
+  eqb-true (length (f .value)) centreSize (and-right (eqb (f .tag) centreTag) (eqb (length (f .value)) centreSize) h),
+)
+
+pub centre-written : (f : Field) → IsCentre f → Bytes (f .value) → centreField (centreOf f) ≡ f
+unfolding centreOf
+centre-written f h bytes =
+    let (t, l) = centre-parts f h in
+    let v = f .value in
+    field-is f _ _ t (list-of v centreSize l ∙ sym (ap₂ {C = List ℕ} (λ x y. x ++ y) (put16-at v bytes 0) (put16-at v bytes 2)))
+
+pub centre-fits : (f : Field) → Bytes (f .value) → (centreOf f .x < 65536) × (centreOf f .y < 65536)
+unfolding centreOf
+centre-fits f bytes =
+    let v = f .value in
+    let a = byte-at v bytes 0 in
+    let b = byte-at v bytes 1 in
+    let c = byte-at v bytes 2 in
+    let d = byte-at v bytes 3 in
+    (omega arith, omega arith)
+
+pub centre-read : (c : Centre) → c .x < 65536 → c .y < 65536 → centreOf (centreField c) ≡ c
+unfolding centreOf
+centre-read c p q =
+    let x-back = u16-back (c .x) p in
+    let y-back = u16-back (c .y) q in
+    λ i. record { x = x-back i; y = y-back i }
+
+pub centre-made : (c : Centre) → isCentre (centreField c) ≡ true
+unfolding isCentre
+centre-made c = refl
+
+-- ---- what stands before the centres, and what from them on
+
+module _ (f : Field) (fs : List Field) where
+  pub before-other : eqb (f .tag) centreTag ≡ false → beforeCentres (f ∷ fs) ≡ f ∷ beforeCentres fs
+  unfolding beforeCentres
+  before-other e = rw e
+
+  pub from-other : eqb (f .tag) centreTag ≡ false → fromCentres (f ∷ fs) ≡ fromCentres fs
+  unfolding fromCentres
+  from-other e = rw e
+
+  pub before-centre : eqb (f .tag) centreTag ≡ true → beforeCentres (f ∷ fs) ≡ []
+  unfolding beforeCentres
+  before-centre e = rw e
+
+  pub from-centre : eqb (f .tag) centreTag ≡ true → fromCentres (f ∷ fs) ≡ f ∷ fs
+  unfolding fromCentres
+  from-centre e = rw e
+
+  cut-here : beforeCentres fs ++ fromCentres fs ≡ fs → (b : Bool) → eqb (f .tag) centreTag ≡ b → beforeCentres (f ∷ fs) ++ fromCentres (f ∷ fs) ≡ f ∷ fs
+  cut-here later true e = rw (before-centre e, from-centre e)
+  cut-here later false e = rw (before-other e, from-other e) (ap (λ (gs : List Field). f ∷ gs) later)
+
+pub cut-joined : (fs : List Field) → beforeCentres fs ++ fromCentres fs ≡ fs
+unfolding beforeCentres fromCentres
+cut-joined [] = refl
+cut-joined (f ∷ fs) = cut-here f fs (cut-joined fs) (eqb (f .tag) centreTag) refl
+
+-- where no field of the first list has a centre's tag and every one of the second has
+abbrev Moving : List Field → Type 0
+Moving ms = Each (λ (f : Field). f .tag ≡ 3) ms
+
+abbrev Placed : List Field → Type 0
+Placed cs = Each (λ (f : Field). f .tag ≡ 4) cs
+
+pub joined-before : (ms cs : List Field) → Moving ms → Placed cs → beforeCentres (ms ++ cs) ≡ ms
+unfolding beforeCentres
+joined-before [] [] h k = refl
+joined-before [] (f ∷ cs) h (k, ks) = before-centre f cs (ap (λ (t : ℕ). eqb t centreTag) k)
+joined-before (f ∷ ms) cs (h, hs) ks =
+    before-other f (ms ++ cs) (ap (λ (t : ℕ). eqb t centreTag) h) ∙ ap (λ (gs : List Field). f ∷ gs) (joined-before ms cs hs ks)
+
+pub joined-from : (ms cs : List Field) → Moving ms → Placed cs → fromCentres (ms ++ cs) ≡ cs
+unfolding fromCentres
+joined-from [] [] h k = refl
+joined-from [] (f ∷ cs) h (k, ks) = from-centre f cs (ap (λ (t : ℕ). eqb t centreTag) k)
+joined-from (f ∷ ms) cs (h, hs) ks = from-other f (ms ++ cs) (ap (λ (t : ℕ). eqb t centreTag) h) ∙ joined-from ms cs hs ks
+
 -- ---- the layout
 
-pub layout-states : (n : ℕ) (fs : List Field) → layoutGood n fs ≡ true → Each IsState (take n fs)
-unfolding layoutGood
-layout-states zero fs h = tt
-layout-states (suc n) [] h = absurd (false≢true h)
-layout-states (suc n) (f ∷ fs) h = (and-left (isState f) (layoutGood n fs) h, layout-states n fs (and-right (isState f) (layoutGood n fs) h))
+or-right : (b : Bool) → (b || true) ≡ true
+or-right true = refl
+or-right false = refl
 
-pub layout-enough : (n : ℕ) (fs : List Field) → layoutGood n fs ≡ true → n ≤ length fs
-unfolding layoutGood
-layout-enough zero fs h = omega arith
-layout-enough (suc n) [] h = absurd (false≢true h)
-layout-enough (suc n) (f ∷ fs) h = suc-le-suc (layout-enough n fs (and-right (isState f) (layoutGood n fs) h))
+module _ (cells : ℕ) where
+  pub layout-states : (n : ℕ) (fs : List Field) → layoutGood cells n fs ≡ true → Each IsState (take n fs)
+  unfolding layoutGood
+  layout-states zero fs h = tt
+  layout-states (suc n) [] h = absurd (false≢true h)
+  layout-states (suc n) (f ∷ fs) h = (and-left (isState f) (layoutGood cells n fs) h, layout-states n fs (and-right (isState f) (layoutGood cells n fs) h))
 
-pub layout-motions : (n : ℕ) (fs : List Field) → layoutGood n fs ≡ true → motionsLaid (drop n fs) ≡ true
-unfolding layoutGood
-layout-motions zero fs h = h
-layout-motions (suc n) [] h = absurd (false≢true h)
-layout-motions (suc n) (f ∷ fs) h = layout-motions n fs (and-right (isState f) (layoutGood n fs) h)
+  pub layout-enough : (n : ℕ) (fs : List Field) → layoutGood cells n fs ≡ true → n ≤ length fs
+  unfolding layoutGood
+  layout-enough zero fs h = omega arith
+  layout-enough (suc n) [] h = absurd (false≢true h)
+  layout-enough (suc n) (f ∷ fs) h = suc-le-suc (layout-enough n fs (and-right (isState f) (layoutGood cells n fs) h))
 
-pub laid-out : (ss ms : List Field) → Each IsState ss → motionsLaid ms ≡ true → layoutGood (length ss) (ss ++ ms) ≡ true
-unfolding layoutGood
-laid-out [] ms h k = k
-laid-out (s ∷ ss) ms (h, hs) k = simp (h, laid-out ss ms hs k)
+  layout-rest : (n : ℕ) (fs : List Field) → layoutGood cells n fs ≡ true
+      → (motionsLaid (beforeCentres (drop n fs)) && centresLaid cells (fromCentres (drop n fs))) ≡ true
+  unfolding layoutGood
+  layout-rest zero fs h = h
+  layout-rest (suc n) [] h = absurd (false≢true h)
+  layout-rest (suc n) (f ∷ fs) h = layout-rest n fs (and-right (isState f) (layoutGood cells n fs) h)
+
+  pub layout-motions : (n : ℕ) (fs : List Field) → layoutGood cells n fs ≡ true → motionsLaid (beforeCentres (drop n fs)) ≡ true
+  layout-motions n fs h = and-left (motionsLaid (beforeCentres (drop n fs))) (centresLaid cells (fromCentres (drop n fs))) (layout-rest n fs h)
+
+  pub layout-centres : (n : ℕ) (fs : List Field) → layoutGood cells n fs ≡ true → centresLaid cells (fromCentres (drop n fs)) ≡ true
+  layout-centres n fs h = and-right (motionsLaid (beforeCentres (drop n fs))) (centresLaid cells (fromCentres (drop n fs))) (layout-rest n fs h)
+
+  pub laid-out : (ss fs : List Field) → Each IsState ss → motionsLaid (beforeCentres fs) ≡ true → centresLaid cells (fromCentres fs) ≡ true
+      → layoutGood cells (length ss) (ss ++ fs) ≡ true
+  unfolding layoutGood
+  laid-out [] fs h k l = simp (k, l)
+  laid-out (s ∷ ss) fs (h, hs) k l = simp (h, laid-out ss fs hs k l)
+
+  pub centres-laid : (cs : List Field) → centresLaid cells cs ≡ true → ((length cs ≡ cells) ⊎ (length cs ≡ 0)) × Each IsCentre cs
+  unfolding centresLaid
+  centres-laid cs h = (
+    number (eqb (length cs) cells) refl,
+    all-each IsCentre isCentre (λ f e. e) cs (and-left (all isCentre cs) (eqb (length cs) cells || eqb (length cs) 0) h),
+  )
+    where
+      number : (b : Bool) → eqb (length cs) cells ≡ b → (length cs ≡ cells) ⊎ (length cs ≡ 0)
+      number true e = inl (eqb-true (length cs) cells e)
+      number false e = inr (eqb-true (length cs) 0 (rw e at (and-right (all isCentre cs) (eqb (length cs) cells || eqb (length cs) 0) h)))
+
+  pub laid-centres : (cs : List Field) → (length cs ≡ cells) ⊎ (length cs ≡ 0) → Each IsCentre cs → centresLaid cells cs ≡ true
+  unfolding centresLaid
+  laid-centres cs (inl e) h = simp (each-all IsCentre isCentre (λ f e. e) cs h, eq-eqb (length cs) cells e)
+  laid-centres cs (inr e) h = simp (each-all IsCentre isCentre (λ f e. e) cs h, eq-eqb (length cs) 0 e, or-right (eqb (length cs) cells))
 
 pub motions-laid : (ms : List Field) → motionsLaid ms ≡ true → Each IsMotion ms × (length ms ≤ motionLimit)
 unfolding motionsLaid

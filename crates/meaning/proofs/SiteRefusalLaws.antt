@@ -12,18 +12,21 @@ use lib.Seq.{length-take-le}
 use Rattle.meaning.specs.Limits.{sweepLimit, lastDistance, motionSize, sweepSize}
 use Rattle.meaning.specs.Basics.{all, Each, Bytes, u16At}
 use Rattle.meaning.specs.Fields.{Field, fields, complete, listed, fieldsBytes}
-use Rattle.meaning.specs.Site.{Site, State, headOf, laterOf, stateCount, siteOf, headGood, isState, sweepCount, isMotion, layoutGood, cellGood, motionGood, siteRefusals}
+use Rattle.meaning.specs.Site.{Site, State, beforeCentres, fromCentres, headOf, laterOf, stateCount, siteOf, headGood, isState, sweepCount, isMotion, isCentre, layoutGood, cellGood, motionGood, siteRefusals}
 use Rattle.meaning.specs.Board.{boardLength}
 use Rattle.meaning.specs.Calls.{PublicCall, Lent, travelRefusals, laterRefusals, refusals}
+use Rattle.meaning.specs.Light.{lightOf, isLight}
+use Rattle.meaning.specs.Pictures.{pictureRefusals, drawRefusals}
 use Rattle.meaning.specs.WellFormed.{GoodMotion}
-use Rattle.meaning.specs.Refusals.{_says_, Says, Not, ShortField, filePaper, HeadField, StateField, MotionField, LaidOut, headIn, LaidIn, fieldsPaper, boardPaper, travelPaper, RefusalsSay}
+use Rattle.meaning.specs.Refusals.{_says_, Says, Not, ShortField, filePaper, HeadField, StateField, MotionField, CentreField, LaidOut, headIn, LaidIn, fieldsPaper, boardPaper, travelPaper, drawPaper, RefusalsSay}
 use Rattle.meaning.proofs.BasicsLaws.{all-each, each-all, each-map, range-within}
 use Rattle.meaning.proofs.FieldsLaws.{fields-of, bytes-of}
 use Rattle.meaning.proofs.MotionLaws.{good-motion}
-use Rattle.meaning.proofs.SiteFieldsLaws.{IsState, IsMotion, state-parts, motion-parts, layout-states, layout-enough, layout-motions, laid-out, motions-laid, laid-motions, head-good, good-head}
+use Rattle.meaning.proofs.SiteFieldsLaws.{IsState, IsMotion, IsCentre, state-parts, motion-parts, centre-parts, cut-joined, joined-before, joined-from}
+use Rattle.meaning.proofs.SiteFieldsLaws.{layout-states, layout-enough, layout-motions, layout-centres, laid-out, motions-laid, laid-motions, centres-laid, laid-centres, head-good, good-head}
 use Rattle.meaning.proofs.SiteLaws.{motions-well, written-read}
-use Rattle.meaning.proofs.SentenceLaws.{Tells, tells-not, told}
-use Rattle.meaning.proofs.RefusalLaws.{later-says}
+use Rattle.meaning.proofs.SentenceLaws.{Tells, tells-not, tells-lt, tells-eq, tells-or, told}
+use Rattle.meaning.proofs.RefusalLaws.{tells-light, tells-is-light, later-says}
 
 -- ---- 1 and 2
 
@@ -63,23 +66,36 @@ motion-test f (t, (n, least, most, e)) =
 motion-field : (f : Field) → IsMotion f → MotionField f
 motion-field f h = let (t, least, most, e) = motion-parts f h in (t, (sweepCount (length (f .value)), least, most, e))
 
-tells-layout : (n : ℕ) (fs : List Field) → Tells (layoutGood n fs) (LaidOut n fs)
-tells-layout n fs = record {
+centre-test : (f : Field) → CentreField f → IsCentre f
+unfolding isCentre
+centre-test f (t, n) = simp (eq-eqb (f .tag) 4 t, eq-eqb (length (f .value)) 4 n)
+
+tells-layout : (cells n : ℕ) (fs : List Field) → Tells (layoutGood cells n fs) (LaidOut cells n fs)
+tells-layout cells n fs = record {
   then = λ h.
-      let (moving, few) = motions-laid (drop n fs) (layout-motions n fs h) in
+      let (moving, few) = motions-laid (beforeCentres (drop n fs)) (layout-motions cells n fs h) in
+      let (number, placed) = centres-laid cells (fromCentres (drop n fs)) (layout-centres cells n fs h) in
       record {
-        enough = layout-enough n fs h;
-        states = each-map IsState StateField state-parts (take n fs) (layout-states n fs h);
-        motions = each-map IsMotion MotionField motion-field (drop n fs) moving;
-        few = few;
+        states = take n fs;
+        motions = beforeCentres (drop n fs);
+        centres = fromCentres (drop n fs);
+        in-order = ap (λ (gs : List Field). take n fs ++ gs) (cut-joined (drop n fs)) ∙ take-append-drop n fs;
+        states-laid = (length-take-le n fs (layout-enough cells n fs h), each-map IsState StateField state-parts (take n fs) (layout-states cells n fs h));
+        motions-laid = (few, each-map IsMotion MotionField motion-field (beforeCentres (drop n fs)) moving);
+        centres-laid = (number, each-map IsCentre CentreField centre-parts (fromCentres (drop n fs)) placed);
       };
-  back = λ laid.
-      let size : length (take n fs) ≡ n = length-take-le n fs (laid .enough) in
-      let all-laid : layoutGood (length (take n fs)) (take n fs ++ drop n fs) ≡ true =
-      laid-out (take n fs) (drop n fs) (each-map StateField IsState state-test (take n fs) (laid .states))
-      (laid-motions (drop n fs) (each-map MotionField IsMotion motion-test (drop n fs) (laid .motions)) (laid .few)) in
-      sym (ap₂ layoutGood size (take-append-drop n fs)) ∙ all-laid;
+  back = λ laid. sym (ap₂ (layoutGood cells) (laid .states-laid .0) (laid .in-order)) ∙ all-laid laid;
 }
+  where
+    all-laid : (laid : LaidOut cells n fs) → layoutGood cells (length (laid .states)) (laid .states ++ (laid .motions ++ laid .centres)) ≡ true
+    all-laid laid =
+        let ms = laid .motions in
+        let cs = laid .centres in
+        let moving = each-map MotionField (λ (f : Field). f .tag ≡ 3) (λ f h. h .0) ms (laid .motions-laid .1) in
+        let placed = each-map CentreField (λ (f : Field). f .tag ≡ 4) (λ f h. h .0) cs (laid .centres-laid .1) in
+        laid-out cells (laid .states) (ms ++ cs) (each-map StateField IsState state-test (laid .states) (laid .states-laid .1))
+        (rw (joined-before ms cs moving placed) (laid-motions ms (each-map MotionField IsMotion motion-test ms (laid .motions-laid .1)) (laid .motions-laid .0)))
+        (rw (joined-from ms cs moving placed) (laid-centres cells cs (laid .centres-laid .0) (each-map CentreField IsCentre centre-test cs (laid .centres-laid .1))))
 
 -- ---- 3 to 6, of the file of the fields
 
@@ -108,29 +124,33 @@ module _ (fs : List Field) (short : Each ShortField fs) where
     back = each-all (λ (s : State). s .cell < site .cells) (cellGood (site .cells)) (λ s. lt-ltb (s .cell) (site .cells)) (site .states);
   }
 
-  layout-same : layoutGood (stateCount file) (laterOf file) ≡ layoutGood (u16At (headIn fs .value) 4) (drop 1 fs)
-  layout-same = ap₂ layoutGood count-is later-is
+  cells-are : siteOf file .cells ≡ u16At (headIn fs .value) 2
+  unfolding siteOf
+  cells-are = rw head-is
+
+  layout-same : layoutGood (siteOf file .cells) (stateCount file) (laterOf file) ≡ layoutGood (u16At (headIn fs .value) 2) (u16At (headIn fs .value) 4) (drop 1 fs)
+  layout-same = rw (cells-are, count-is, later-is)
 
   fields-say : Says (take 3 (drop 2 (siteRefusals file))) (fieldsPaper fs (siteOf file))
   unfolding siteRefusals
   fields-say = (
     told 3 (tells-not (subst (λ (f : Field). Tells (headGood f) (HeadField (headIn fs))) (sym head-is) (tells-head (headIn fs)))),
     (
-      told 4 (tells-not (subst (λ (b : Bool). Tells b (LaidIn fs)) (sym layout-same) (tells-layout (u16At (headIn fs .value) 4) (drop 1 fs)))),
+      told 4 (tells-not (subst (λ (b : Bool). Tells b (LaidIn fs)) (sym layout-same) (tells-layout (u16At (headIn fs .value) 2) (u16At (headIn fs .value) 4) (drop 1 fs)))),
       (told 5 (tells-not (tells-cells (siteOf file))), tt),
     ),
   )
 
-  motions-made : Each IsMotion (drop (stateCount file) (laterOf file)) → all (motionGood (siteOf file)) (siteOf file .motions) ≡ true
+  motions-made : Each IsMotion (beforeCentres (drop (stateCount file) (laterOf file))) → all (motionGood (siteOf file)) (siteOf file .motions) ≡ true
       → Each (GoodMotion (siteOf file)) (siteOf file .motions)
   unfolding siteOf
-  motions-made moving h = motions-well (siteOf file) (drop (stateCount file) (laterOf file)) moving h
+  motions-made moving h = motions-well (siteOf file) (beforeCentres (drop (stateCount file) (laterOf file))) moving h
 
   tells-motions : LaidIn fs → Tells (all (motionGood (siteOf file)) (siteOf file .motions)) (Each (GoodMotion (siteOf file)) (siteOf file .motions))
   tells-motions laid =
-      let good : layoutGood (stateCount file) (laterOf file) ≡ true =
-      layout-same ∙ tells-layout (u16At (headIn fs .value) 4) (drop 1 fs) .back laid in
-      let (moving, few) = motions-laid _ (layout-motions (stateCount file) (laterOf file) good) in
+      let good : layoutGood (siteOf file .cells) (stateCount file) (laterOf file) ≡ true =
+      layout-same ∙ tells-layout (u16At (headIn fs .value) 2) (u16At (headIn fs .value) 4) (drop 1 fs) .back laid in
+      let (moving, few) = motions-laid _ (layout-motions (siteOf file .cells) (stateCount file) (laterOf file) good) in
       record {
         then = motions-made moving;
         back = each-all (GoodMotion (siteOf file)) (motionGood (siteOf file)) (good-motion (siteOf file)) (siteOf file .motions);
@@ -161,6 +181,23 @@ travel-says : (d : ℕ) → Says (travelRefusals d) (travelPaper d)
 unfolding travelRefusals
 travel-says d = (told 19 (record { then = λ h. omega (arith, ltb-true lastDistance d h); back = λ above. lt-ltb lastDistance d (omega arith) }), tt)
 
+-- ---- 20
+
+draw-six : (file light : List ℕ) (k : ℕ) → take 6 (drawRefusals file light k) ≡ siteRefusals file
+unfolding drawRefusals siteRefusals
+draw-six file light k = refl
+
+draw-later : (file light : List ℕ) (k : ℕ) → drop 6 (drawRefusals file light k) ≡ pictureRefusals (siteOf file) light k
+unfolding drawRefusals siteRefusals
+draw-later file light k = refl
+
+draw-says : (site : Site) (light : List ℕ) (k : ℕ) → Bytes light → Says (pictureRefusals site light k) (drawPaper site light (lightOf light) k)
+unfolding pictureRefusals
+draw-says site light k bytes = (
+  told 8 (tells-not (tells-is-light light bytes)),
+  (told 10 (tells-not (tells-light site (lightOf light))), (told 20 (tells-or (tells-lt 16 k) (tells-eq (length (site .centres)) 0)), tt)),
+)
+
 pub refusals-say : RefusalsSay
 refusals-say = record {
   first-six = first-six;
@@ -172,4 +209,7 @@ refusals-say = record {
   board = board-says;
   later = λ site well l size q given. later-says site well l size q given;
   travel = travel-says;
+  draw-six = draw-six;
+  draw-later = draw-later;
+  draw = draw-says;
 }

@@ -1,6 +1,6 @@
 -- All theorems about the definitions, each as it is stated in specs/.
 -- Assumes nothing.
-use Rattle.meaning.specs.Laws.{LowestRight, RefusalsRise, HoldersRight, MeetsRight, SitesRight, LightsRight, PlansRight, DwellRight, SearchRight, IntervalsRight, HandoverRight, DayRight}
+use Rattle.meaning.specs.Laws.{LowestRight, RefusalsRise, HoldersRight, MeetsRight, SitesRight, LightsRight, PlansRight, DwellRight, SearchRight, IntervalsRight, HandoverRight, PicturesRight, DayRight}
 use Rattle.meaning.specs.Refusals.{RefusalsSay, BytesRight, PlainRight}
 use Rattle.meaning.specs.Demands.{Desk, Exact, meantDesk, Demand1, Demand2, Demand3}
 use Rattle.meaning.proofs.AnswersLaws.{lowest-right, refusals-rise}
@@ -16,6 +16,7 @@ use Rattle.meaning.proofs.DwellLaws.{dwell-right}
 use Rattle.meaning.proofs.TraceLaws.{search-right}
 use Rattle.meaning.proofs.IntervalLaws.{intervals-right}
 use Rattle.meaning.proofs.HandoverLaws.{handover-right}
+use Rattle.meaning.proofs.PictureLaws.{pictures-right}
 use Rattle.meaning.proofs.DayPrintsLaws.{day-right}
 use Rattle.meaning.proofs.DemandLaws.{exact-demand1, exact-demand2}
 use Rattle.meaning.proofs.ListLaws.{exact-demand3}
@@ -37,6 +38,7 @@ pub record AllLaws : Type 0 where
   pub search : SearchRight
   pub intervals : IntervalsRight
   pub handover : HandoverRight
+  pub pictures : PicturesRight
   pub day : DayRight
 
 pub all-laws : AllLaws
@@ -55,6 +57,7 @@ all-laws = record {
   search = search-right;
   intervals = intervals-right;
   handover = handover-right;
+  pictures = pictures-right;
   day = day-right;
 }
 

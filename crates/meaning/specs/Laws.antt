@@ -11,11 +11,11 @@ use Rattle.meaning.specs.Basics.{Each, Some, Bytes}
 use Rattle.meaning.specs.Runs.{meets, Meet}
 use Rattle.meaning.specs.Answers.{Refusal, lowest, RiseFrom, accepted, refused}
 use Rattle.meaning.specs.Fields.{Field, fields}
-use Rattle.meaning.specs.Site.{Site, Sweep, stateAt, cellOf, covers, siteRefusals, readSite}
+use Rattle.meaning.specs.Site.{Site, Sweep, Centre, stateAt, cellOf, covers, siteOf, siteRefusals, readSite}
 use Rattle.meaning.specs.Board.{Free, isTug, isClosure, isHolder}
 use Rattle.meaning.specs.Plan.{Step, wait, Node, planEnd, canUnload, planPairs}
 use Rattle.meaning.specs.Reach.{reachWord, Route, findRoute}
-use Rattle.meaning.specs.Light.{Light, encode, decode}
+use Rattle.meaning.specs.Light.{Light, lightOf, encode, decode}
 use Rattle.meaning.specs.Intervals.{Interval, intervals, numbersOf}
 use Rattle.meaning.specs.Calls.{Call, PublicCall, Lent, travelRefusals, refusals}
 use Rattle.meaning.specs.PlainBoard.{hasPair}
@@ -23,12 +23,15 @@ use Rattle.meaning.specs.Day.{line, Day, callOf, dayOpened, textOf, text
 use Rattle.meaning.specs.DayPrints.{LineText, ScriptField, start, DayPrints}
 use Rattle.meaning.specs.ValidPlans.{Leads, Valid, Unloads, ValidPlan, Reached, Arrival, Along, Holds, Traced, mergeWaits}
 use Rattle.meaning.specs.SafeIntervals.{AllSafeIntervals}
-use Rattle.meaning.specs.WellFormed.{WellFormed, fileOf, KeepsLayout}
+use Rattle.meaning.specs.WellFormed.{WellFormed, CentreFits, fileOf, InLayout, KeepsLayout}
+use Rattle.meaning.specs.Pictures.{Picture, placeBetween, pictureOf, drawRefusals, drawMeant}
+use Rattle.meaning.specs.DrawnPictures.{OnCentre, Shown}
 
 -- the numbers of every call's list rise, so that the first that applies is the lowest
 pub record RefusalsRise : Type 0 where
   pub rise : (file : List ℕ) (l : Lent) (q : PublicCall) → RiseFrom 0 (refusals file l q)
   pub travel : (d : ℕ) → RiseFrom 0 (travelRefusals d)
+  pub draw : (file light : List ℕ) (k : ℕ) → RiseFrom 0 (drawRefusals file light k)
 
 -- the number that a rising list tells: 0 exactly where none applies, and else one that applies while no lower one does
 pub record LowestRight : Type 0 where
@@ -56,9 +59,10 @@ pub record MeetsRight : Type 0 where
 
 -- a file of bytes is accepted exactly when it is the file of a well-formed site of at most 65,536 bytes, and it is read as that site
 pub record SitesRight : Type 0 where
-  pub read-back : (site : Site) → WellFormed site → length (fileOf site) ≤ 65536 → readSite (fileOf site) ≡ accepted site
+  pub read-back : (site : Site) → WellFormed site → Each CentreFits (site .centres) → length (fileOf site) ≤ 65536
+      → readSite (fileOf site) ≡ accepted site
   pub only-those : (file : List ℕ) (site : Site) → Bytes file → readSite file ≡ accepted site
-      → WellFormed site × (fileOf site ≡ file) × (length file ≤ 65536)
+      → WellFormed site × Each CentreFits (site .centres) × (fileOf site ≡ file) × (length file ≤ 65536)
   -- a file that is not tells the lowest number that applies
   pub refused-by : (file : List ℕ) (n : ℕ) → lowest (siteRefusals file) ≡ suc n → readSite file ≡ refused (suc n)
 
@@ -131,6 +135,18 @@ pub record HandoverRight : Type 0 where
       → ((c t : ℕ) → Holds site a ps b dwell c t → Holds site d qs e other c t → ⊥)
       → (t : ℕ) → a .tick ≤ t → t < b .tick + dwell
       → ((c : ℕ) → Holds site a ps b dwell c (suc t) → Holds site d qs e other c t) → ⊥
+
+-- the moving picture: what is drawn of a step is what the words say, and nothing else
+pub record PicturesRight : Type 0 where
+  pub shown : (site : Site) (l : Light) → InLayout true (l .steps) → (i k : ℕ) → k ≤ 16 → Shown site l k i (pictureOf site l i k)
+  pub only-shown : (site : Site) (l : Light) (i k : ℕ) (p : Picture) → k ≤ 16 → Shown site l k i p → p ≡ pictureOf site l i k
+  -- frames 0 and 16 sit on the centres of the motion's from and to cells
+  pub first-frame : (a b : Centre) → OnCentre a (placeBetween 0 a b)
+  pub last-frame : (a b : Centre) → OnCentre b (placeBetween 16 a b)
+  -- the call answers with it where no refusal applies, and else with the lowest number that does
+  pub drawn : (file light : List ℕ) (i k : ℕ) → lowest (drawRefusals file light k) ≡ 0
+      → drawMeant file light i k ≡ accepted (pictureOf (siteOf file) (lightOf light) i k)
+  pub refused-by : (file light : List ℕ) (i k n : ℕ) → lowest (drawRefusals file light k) ≡ suc n → drawMeant file light i k ≡ refused (suc n)
 
 -- ---- the day program
 

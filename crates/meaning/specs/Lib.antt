@@ -10,11 +10,13 @@ pub mod Reach
 pub mod Light
 pub mod Intervals
 pub mod Calls
+pub mod Pictures
 pub mod PlainBoard
 pub mod Day
 pub mod ValidPlans
 pub mod SafeIntervals
 pub mod WellFormed
+pub mod DrawnPictures
 pub mod Refusals
 pub mod DayPrints
 pub mod Laws

@@ -43,6 +43,10 @@ speedLimit = 15
 abbrev pub lastDistance : ℕ
 lastDistance = 511
 
+-- the frames of a step, from 0 on: a motion is drawn in sixteenths
+abbrev pub lastFrame : ℕ
+lastFrame = 16
+
 -- the edition after which no call changes the board
 abbrev pub lastEdition : ℕ
 lastEdition = 4294967295
@@ -64,6 +68,9 @@ stateTag = 2
 
 abbrev pub motionTag : ℕ
 motionTag = 3
+
+abbrev pub centreTag : ℕ
+centreTag = 4
 
 abbrev pub lightTag : ℕ
 lightTag = 16
@@ -104,6 +111,9 @@ motionSize = 5
 
 abbrev pub sweepSize : ℕ
 sweepSize = 4
+
+abbrev pub centreSize : ℕ
+centreSize = 4
 
 -- the values of a light's fields
 abbrev pub lightHeadSize : ℕ

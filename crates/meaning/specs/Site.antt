@@ -1,11 +1,11 @@
--- The site file: cells, states and motions, read from bytes, and refusals 1 to 6 ('Site file' of docs/FORMATS.md).
+-- The site file: cells, states, motions and centres, read from bytes, and refusals 1 to 6 ('Site file' of docs/FORMATS.md).
 -- Assumes nothing.
 use Prim.Native.Nat.{ℕ, zero, suc, _+_, _*_, _-_, _/_}
 use mathlib.Core.List.{List, [], _∷_, map}
-use mathlib.Core.Bool.{Bool, false, _&&_, not}
+use mathlib.Core.Bool.{Bool, false, cond, _&&_, _||_, not}
 use lib.ListN.{length, getD, take, drop}
 use lib.Dec.{leb, ltb, eqb}
-use Rattle.meaning.specs.Limits.{fileLimit, horizonLimit, cellLimit, stateLimit, marginLimit, motionLimit, sweepLimit, headTag, stateTag, motionTag, headSize, stateSize, motionSize, sweepSize}
+use Rattle.meaning.specs.Limits.{fileLimit, horizonLimit, cellLimit, stateLimit, marginLimit, motionLimit, sweepLimit, headTag, stateTag, motionTag, centreTag, headSize, stateSize, motionSize, sweepSize, centreSize}
 use Rattle.meaning.specs.Basics.{any, all, allBelow, within, u16At}
 use Rattle.meaning.specs.Runs.{meets}
 use Rattle.meaning.specs.Answers.{Refusal, _if_, lowest, Answer, answer}
@@ -28,13 +28,19 @@ pub record Motion : Type 0 where
   pub span : ℕ
   pub sweeps : List Sweep
 
--- H, C, the margin m, and the states and motions, numbered from 0
+-- a cell's centre, in millimetres
+pub record Centre : Type 0 where
+  pub x : ℕ
+  pub y : ℕ
+
+-- H, C, the margin m, the states and motions, numbered from 0, and each cell's centre, in cell order, or none
 pub record Site : Type 0 where
   pub horizon : ℕ
   pub cells : ℕ
   pub margin : ℕ
   pub states : List State
   pub motions : List Motion
+  pub centres : List Centre
 
 -- ---- by number; what stands for a number out of range is never used
 
@@ -44,11 +50,17 @@ noState = record { cell = 0; speed = 1 }
 abbrev pub noMotion : Motion
 noMotion = record { from = 0; to = 0; span = 0; sweeps = [] }
 
+abbrev pub noCentre : Centre
+noCentre = record { x = 0; y = 0 }
+
 abbrev pub stateAt : Site → ℕ → State
 stateAt site n = getD (site .states) n noState
 
 abbrev pub motionAt : Site → ℕ → Motion
 motionAt site n = getD (site .motions) n noMotion
+
+abbrev pub centreAt : Site → ℕ → Centre
+centreAt site c = getD (site .centres) c noCentre
 
 abbrev pub cellOf : Site → ℕ → ℕ
 cellOf site s = stateAt site s .cell
@@ -73,6 +85,18 @@ unfoldable pub motionOf : Field → Motion
 motionOf f =
     record { from = u16At (f .value) 0; to = u16At (f .value) 2; span = getD (f .value) 4 0; sweeps = sweepsOf (drop motionSize (f .value)) }
 
+unfoldable pub centreOf : Field → Centre
+centreOf f = record { x = u16At (f .value) 0; y = u16At (f .value) 2 }
+
+-- the fields before the first with a centre's tag, and from it on
+unfoldable pub beforeCentres : List Field → List Field
+beforeCentres [] = []
+beforeCentres (f ∷ fs) = cond (eqb (f .tag) centreTag) [] (f ∷ beforeCentres fs)
+
+unfoldable pub fromCentres : List Field → List Field
+fromCentres [] = []
+fromCentres (f ∷ fs) = cond (eqb (f .tag) centreTag) (f ∷ fs) (fromCentres fs)
+
 -- the head, and the fields after it
 unfoldable pub headOf : List ℕ → Field
 headOf file = getD (listed (fields file)) 0 noField
@@ -90,7 +114,8 @@ siteOf file =
       cells = u16At (headOf file .value) 2;
       margin = getD (headOf file .value) 6 0;
       states = map stateOf (take (stateCount file) (laterOf file));
-      motions = map motionOf (drop (stateCount file) (laterOf file));
+      motions = map motionOf (beforeCentres (drop (stateCount file) (laterOf file)));
+      centres = map centreOf (fromCentres (drop (stateCount file) (laterOf file)));
     }
 
 -- ---- 3: the head
@@ -119,11 +144,18 @@ isMotion f =
 unfoldable pub motionsLaid : List Field → Bool
 motionsLaid fs = all isMotion fs && leb (length fs) motionLimit
 
--- n states, and then the motions
-unfoldable pub layoutGood : ℕ → List Field → Bool
-layoutGood zero fs = motionsLaid fs
-layoutGood (suc n) [] = false
-layoutGood (suc n) (f ∷ fs) = isState f && layoutGood n fs
+unfoldable pub isCentre : Field → Bool
+isCentre f = eqb (f .tag) centreTag && eqb (length (f .value)) centreSize
+
+-- one for each cell, or none
+unfoldable pub centresLaid : ℕ → List Field → Bool
+centresLaid cells fs = all isCentre fs && (eqb (length fs) cells || eqb (length fs) 0)
+
+-- n states, then the motions, and then the centres
+unfoldable pub layoutGood : ℕ → ℕ → List Field → Bool
+layoutGood cells zero fs = motionsLaid (beforeCentres fs) && centresLaid cells (fromCentres fs)
+layoutGood cells (suc n) [] = false
+layoutGood cells (suc n) (f ∷ fs) = isState f && layoutGood cells n fs
 
 -- ---- 5: a state's cell
 
@@ -170,7 +202,7 @@ siteRefusals file =
     1 if not (leb (length file) fileLimit)
     ∷ 2 if not (complete (fields file))
     ∷ 3 if not (headGood (headOf file))
-    ∷ 4 if not (layoutGood (stateCount file) (laterOf file))
+    ∷ 4 if not (layoutGood (siteOf file .cells) (stateCount file) (laterOf file))
     ∷ 5 if not (all (cellGood (siteOf file .cells)) (siteOf file .states))
     ∷ 6 if not (all (motionGood (siteOf file)) (siteOf file .motions))
     ∷ []

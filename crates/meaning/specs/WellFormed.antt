@@ -2,13 +2,14 @@
 -- Assumes nothing.
 use Prim.Native.Nat.{ℕ, suc, _+_, _*_, _≤_, _<_}
 use mathlib.Core.Path.{_≡_}
+use mathlib.Core.Logic.{_⊎_}
 use mathlib.Core.Bool.{Bool, true, false}
 use mathlib.Core.List.{List, [], _∷_, _++_, map}
 use lib.ListN.{length}
-use Rattle.meaning.specs.Limits.{headTag, stateTag, motionTag}
+use Rattle.meaning.specs.Limits.{headTag, stateTag, motionTag, centreTag}
 use Rattle.meaning.specs.Basics.{Each, Some, put16}
 use Rattle.meaning.specs.Fields.{Field, fieldsBytes}
-use Rattle.meaning.specs.Site.{Site, State, Sweep, Motion, cellOf}
+use Rattle.meaning.specs.Site.{Site, State, Sweep, Motion, Centre, cellOf}
 use Rattle.meaning.specs.Plan.{Step, wait, move}
 use Rattle.meaning.specs.Light.{Light}
 
@@ -39,6 +40,12 @@ pub record WellFormed (site : Site) : Type 0 where
   pub motions-range : length (site .motions) ≤ 4000
   pub state-cells : Each (λ (s : State). s .cell < site .cells) (site .states)
   pub motions-good : Each (GoodMotion site) (site .motions)
+  -- a centre for each cell, or none
+  pub centres-number : (length (site .centres) ≡ site .cells) ⊎ (length (site .centres) ≡ 0)
+
+-- a centre that a file can hold: two bytes to a number
+abbrev pub CentreFits : Centre → Type 0
+CentreFits c = (c .x < 65536) × (c .y < 65536)
 
 -- ---- the file of a site
 
@@ -52,11 +59,14 @@ sweepBytes (w ∷ ws) = put16 (w .cell) ++ (w .first ∷ w .last ∷ sweepBytes 
 abbrev pub motionField : Motion → Field
 motionField m = record { tag = motionTag; value = put16 (m .from) ++ (put16 (m .to) ++ (m .span ∷ sweepBytes (m .sweeps))) }
 
+abbrev pub centreField : Centre → Field
+centreField c = record { tag = centreTag; value = put16 (c .x) ++ put16 (c .y) }
+
 abbrev pub headField : Site → Field
 headField site = record { tag = headTag; value = put16 (site .horizon) ++ (put16 (site .cells) ++ (put16 (length (site .states)) ++ (site .margin ∷ []))) }
 
 unfoldable pub fileOf : Site → List ℕ
-fileOf site = fieldsBytes (headField site ∷ (map stateField (site .states) ++ map motionField (site .motions)))
+fileOf site = fieldsBytes (headField site ∷ (map stateField (site .states) ++ (map motionField (site .motions) ++ map centreField (site .centres))))
 
 -- ---- lights that keep the layout
 

@@ -2,21 +2,21 @@
 -- Assumes nothing.
 use Prim.Native.Nat.{ℕ, suc, _≤_, _<_}
 use mathlib.Core.Path.{_≡_, sym, ap, _∙_}
-use mathlib.Core.List.{List, map}
+use mathlib.Core.List.{List}
 use mathlib.Core.Bool.{true, false}
-use lib.ListN.{length, length-map}
+use lib.ListN.{length, drop, length-map}
 use borrow.Author.Tests.{le-leb, lt-leb}
 use Rattle.meaning.specs.Limits.{fileLimit}
 use Rattle.meaning.specs.Basics.{all}
 use Rattle.meaning.specs.Answers.{lowest, answer}
 use Rattle.meaning.specs.Fields.{fields, complete, listed}
-use Rattle.meaning.specs.Site.{siteOf, siteRefusals, readSite, headOf, headGood, layoutGood, stateCount, laterOf, cellGood, motionGood, motionOf}
+use Rattle.meaning.specs.Site.{siteOf, siteRefusals, readSite, headOf, headGood, layoutGood, stateCount, laterOf, fromCentres, cellGood, motionGood}
 use Rattle.fields.specs.Places.{fieldsAt}
-use Rattle.site_layout.specs.Laid.{statePlace, HeadIs, Laid}
+use Rattle.site_layout.specs.Laid.{leading, statePlace, LeadingIs, HeadIs, Laid}
 use Rattle.site_layout.specs.declared.Head.{Head}
-use Rattle.site_layout.proofs.Laws.{HeadHere, laid-count}
+use Rattle.site_layout.specs.declared.Leading.{Leading}
+use Rattle.site_layout.proofs.Laws.{HeadHere, laid-count, laid-cut, laid-motions, laid-centres}
 use Rattle.site.specs.declared.Check.the-variants.{Passed, Refused}
-use Rattle.site_read.specs.Motions.{Motions}
 use Rattle.site.specs.Check.{checkOf, sizesOf}
 use Rattle.site_read.proofs.Laws.{laid-start}
 
@@ -38,7 +38,7 @@ module _ (file : List ℕ) (l : length file ≤ fileLimit) where
     unfolding siteRefusals lowest
     number-3 e = refused-by file 2 (simp (le-leb (length file) fileLimit l, w, e))
 
-    pub number-4 : headGood (headOf file) ≡ true → layoutGood (stateCount file) (laterOf file) ≡ false → checkOf (readSite file) ≡ Refused 4
+    pub number-4 : headGood (headOf file) ≡ true → layoutGood (siteOf file .cells) (stateCount file) (laterOf file) ≡ false → checkOf (readSite file) ≡ Refused 4
     unfolding siteRefusals lowest
     number-4 h e = refused-by file 3 (simp (le-leb (length file) fileLimit l, w, h, e))
 
@@ -60,25 +60,41 @@ module _ (file : List ℕ) (l : length file ≤ fileLimit) where
 
 -- the tests as the code has them
 pub layout-same : (file : List ℕ) (head : Head) → HeadHere file → HeadIs file head
-    → layoutGood (stateCount file) (laterOf file) ≡ layoutGood (head .states) (listed (fieldsAt file (head .start)))
-layout-same file head h e = rw (h .later, e .states, e .start)
+    → layoutGood (siteOf file .cells) (stateCount file) (laterOf file) ≡ layoutGood (head .cells) (head .states) (listed (fieldsAt file (head .start)))
+layout-same file head h e = rw (h .later, e .cells, e .states, e .start)
 
-same-layout : {h h′ c c′ a a′ s s′ m m′ t t′ : ℕ} → h ≡ h′ → c ≡ c′ → a ≡ a′ → s ≡ s′ → m ≡ m′ → t ≡ t′ →
-    Passed (record { horizon = h; cells = c; margin = a; states = s; motions = m; start = t })
-    ≡ Passed (record { horizon = h′; cells = c′; margin = a′; states = s′; motions = m′; start = t′ })
-same-layout p q a r s t = λ i. Passed (record { horizon = p i; cells = q i; margin = a i; states = r i; motions = s i; start = t i })
+same-layout : {h h′ c c′ a a′ s s′ m m′ t t′ n n′ : ℕ} → h ≡ h′ → c ≡ c′ → a ≡ a′ → s ≡ s′ → m ≡ m′ → t ≡ t′ → n ≡ n′ →
+    Passed (record { horizon = h; cells = c; margin = a; states = s; motions = m; start = t; centres = n })
+    ≡ Passed (record { horizon = h′; cells = c′; margin = a′; states = s′; motions = m′; start = t′; centres = n′ })
+same-layout p q a r s t n = λ i. Passed (record { horizon = p i; cells = q i; margin = a i; states = r i; motions = s i; start = t i; centres = n i })
 
 module _ (file : List ℕ) (d : Laid file) (head : Head) (e : HeadIs file head) where
   pub count-is : head .states ≡ length (siteOf file .states)
   count-is = e .states ∙ sym (laid-count file d)
 
-  pub motions-start : (start : ℕ) → start ≡ statePlace (head .states) → Motions file start × (siteOf file .motions ≡ map motionOf (listed (fieldsAt file start)))
-  motions-start start p = laid-start file start d (p ∙ ap statePlace count-is)
+  -- where the motions start, and the fields from there on
+  place-is : (start : ℕ) → start ≡ statePlace (head .states) → start ≡ statePlace (stateCount file)
+  place-is start p = p ∙ ap statePlace (e .states)
 
-  pub motions-count : (start n : ℕ) → start ≡ statePlace (head .states) → n ≡ length (listed (fieldsAt file start)) → n ≡ length (siteOf file .motions)
-  motions-count start n p q = q ∙ sym (ap length (motions-start start p .1) ∙ simp length-map)
+  pub motions-start : (start : ℕ) → start ≡ statePlace (head .states) → (complete (fieldsAt file start) ≡ true) × (start ≤ length file)
+  motions-start start p = let x = laid-start file start d (p ∙ ap statePlace count-is) .0 in (x .whole, x .inside)
 
-  pub accepted-is : (start n : ℕ) → start ≡ statePlace (head .states) → n ≡ length (listed (fieldsAt file start)) →
-      Passed (sizesOf (siteOf file)) ≡ Passed (record { horizon = head .horizon; cells = head .cells; margin = head .margin; states = head .states; motions = n; start = start })
-  accepted-is start n p q =
-      same-layout (sym (e .horizon)) (sym (e .cells)) (sym (e .margin)) (sym count-is) (sym (motions-count start n p q)) (sym (p ∙ ap statePlace count-is))
+  module _ (start : ℕ) (p : start ≡ statePlace (head .states)) (r : Leading) (first : LeadingIs file start r) where
+    motions-leading : r .count ≡ leading (listed (fieldsAt file (statePlace (stateCount file))))
+    motions-leading = first .count ∙ ap (λ (k : ℕ). leading (listed (fieldsAt file k))) (place-is start p)
+
+    pub motions-count : r .count ≡ length (siteOf file .motions)
+    motions-count = motions-leading ∙ sym (laid-cut file d .count) ∙ sym (ap length (laid-motions file d) ∙ simp length-map)
+
+    pub centres-count : (n : ℕ) → n ≡ length (listed (fieldsAt file (r .next))) → n ≡ length (siteOf file .centres)
+    centres-count n q =
+        let fs = listed (fieldsAt file (statePlace (stateCount file))) in
+        let same : listed (fieldsAt file (r .next)) ≡ fromCentres fs =
+        first .rest ∙ ap (λ (k : ℕ). drop (r .count) (listed (fieldsAt file k))) (place-is start p) ∙ ap (λ (k : ℕ). drop k fs) motions-leading ∙ sym (laid-cut file d .centres) in
+        q ∙ ap length same ∙ sym (ap length (laid-centres file d) ∙ simp length-map)
+
+    pub accepted-is : (n : ℕ) → n ≡ length (listed (fieldsAt file (r .next))) →
+        Passed (sizesOf (siteOf file))
+        ≡ Passed (record { horizon = head .horizon; cells = head .cells; margin = head .margin; states = head .states; motions = r .count; start = start; centres = n })
+    accepted-is n q =
+        same-layout (sym (e .horizon)) (sym (e .cells)) (sym (e .margin)) (sym count-is) (sym motions-count) (sym (p ∙ ap statePlace count-is)) (sym (centres-count n q))

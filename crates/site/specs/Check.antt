@@ -18,6 +18,7 @@ sizesOf site =
       states = length (site .states);
       motions = length (site .motions);
       start = statePlace (length (site .states));
+      centres = length (site .centres);
     }
 
 unfoldable pub checkOf : Answer Site → Check

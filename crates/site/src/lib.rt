@@ -20,6 +20,7 @@ pub struct Sizes {
     pub states: usize,
     pub motions: usize,
     pub start: usize,
+    pub centres: usize,
 }
 
 // The most ticks that a tug may unload at its goal.
@@ -64,7 +65,10 @@ fn check_values(file: &[u8], head: Head) -> Check
     let count = head.states;
     let start = site_read::state_place(count);
     let states_pass = site_values::states_good(file, count, cells);
-    let motions = fields::count_fields(file, start);
+    let leading = site_layout::leading_motions(file, start);
+    let motions = leading.count;
+    let behind = leading.next;
+    let centres = fields::count_fields(file, behind);
     let motions_pass = site_values::motions_good(file, start, motions, count, cells);
     if !states_pass {
         return Check::Refused(5);
@@ -79,6 +83,7 @@ fn check_values(file: &[u8], head: Head) -> Check
         states: count,
         motions,
         start,
+        centres,
     })
 }
 
@@ -96,7 +101,7 @@ pub fn check_site(file: &[u8]) -> Check
         return Check::Refused(3);
     }
     let head = site_layout::read_head(file);
-    if !site_layout::layout_good(file, head.start, head.states) {
+    if !site_layout::layout_good(file, head.start, head.states, head.cells) {
         return Check::Refused(4);
     }
     check_values(file, head)

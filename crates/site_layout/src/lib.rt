@@ -5,11 +5,11 @@ ghost use mathlib.Core.Bool.{true};
 ghost use Prim.Native.Nat.{_+_, _≤_};
 ghost use lib.ListN.{length};
 ghost use Rattle.meaning.specs.Limits.{headSize};
-ghost use Rattle.meaning.specs.Basics.{all, within};
+ghost use Rattle.meaning.specs.Basics.{within};
 ghost use Rattle.meaning.specs.Fields.{fields, complete, listed};
-ghost use Rattle.meaning.specs.Site.{headOf, headGood, isState, isMotion, sweepCount, motionsLaid, layoutGood};
+ghost use Rattle.meaning.specs.Site.{headOf, headGood, isState, isMotion, isCentre, sweepCount, centresLaid, layoutGood};
 ghost use Rattle.fields.specs.Places.{fieldsAt};
-ghost use Rattle.site_layout.specs.Laid.{firstIs, headValues, motionLength, HeadIs};
+ghost use Rattle.site_layout.specs.Laid.{firstIs, headValues, motionLength, LeadingIs, HeadIs};
 
 // The most that H, C, S and the margin may be, and the most motions and sweeps of a motion.
 const HORIZON_LIMIT: usize = 1000;
@@ -31,12 +31,16 @@ const STATE_TAG: u8 = 2;
 
 const MOTION_TAG: u8 = 3;
 
+const CENTRE_TAG: u8 = 4;
+
 // Bytes of the values; of a motion's, those before its sweeps.
 pub const HEAD_SIZE: usize = 7;
 
 pub const STATE_SIZE: usize = 3;
 
 pub const MOTION_SIZE: usize = 5;
+
+pub const CENTRE_SIZE: usize = 4;
 
 fn in_range(n: usize, lo: usize, hi: usize) -> bool
     ensures { λ r. ⌜ r ≡ within lo hi n ⌝ }
@@ -133,38 +137,80 @@ fn is_motion(file: &[u8], at: usize) -> bool
     }
 }
 
-// Each field from `start` on is laid out as a motion.
-fn all_motions(file: &[u8], start: usize) -> bool
+// A centre starts at `at`.
+fn is_centre(file: &[u8], at: usize) -> bool
+    ensures { λ r. ⌜ r ≡ firstIs isCentre (listed (fieldsAt (now (file .entry)) at)) ⌝ }
+{
+    match fields::read_item(file, at) {
+        Item::Field(h) => {
+            if h.tag != CENTRE_TAG {
+                return false;
+            }
+            h.len == CENTRE_SIZE
+        }
+        _ => false,
+    }
+}
+
+// How many motions come first, and where the field behind them starts.
+pub struct Leading {
+    pub count: usize,
+    pub next: usize,
+}
+
+// The motions from `start` on, up to the first field that is not laid out as one.
+pub fn leading_motions(file: &[u8], start: usize) -> Leading
     requires { ⌜ (complete (fieldsAt (now file) start) ≡ true) × (start ≤ length (now file)) ⌝ }
-    ensures { λ r. ⌜ r ≡ all isMotion (listed (fieldsAt (now (file .entry)) start)) ⌝ }
+    ensures { λ r. ⌜ LeadingIs (now (file .entry)) start r ⌝ }
 {
     let mut at = start;
+    let mut n = 0;
+    while is_motion(file, at) {
+        at = fields::next_field(file, at);
+        n = n + 1;
+    }
+    Leading { count: n, next: at }
+}
+
+// The fields from `start` on are centres: one for each cell, or none.
+fn centres_laid(file: &[u8], start: usize, cells: usize) -> bool
+    requires { ⌜ (complete (fieldsAt (now file) start) ≡ true) × (start ≤ length (now file)) ⌝ }
+    ensures { λ r. ⌜ r ≡ centresLaid cells (listed (fieldsAt (now (file .entry)) start)) ⌝ }
+{
+    let mut at = start;
+    let mut n = 0;
     while at < file.len() {
-        if is_motion(file, at) {
+        if is_centre(file, at) {
             at = fields::next_field(file, at);
+            n = n + 1;
         } else {
             return false;
         }
     }
-    true
-}
-
-// The fields from `start` on are at most 4,000 motions.
-fn motions_laid(file: &[u8], start: usize) -> bool
-    requires { ⌜ (complete (fieldsAt (now file) start) ≡ true) × (start ≤ length (now file)) ⌝ }
-    ensures { λ r. ⌜ r ≡ motionsLaid (listed (fieldsAt (now (file .entry)) start)) ⌝ }
-{
-    if all_motions(file, start) {
-        fields::count_fields(file, start) <= MOTION_LIMIT
-    } else {
-        false
+    if n == cells {
+        return true;
     }
+    n == 0
 }
 
-// From `start` on come `count` states and then the motions.
-pub fn layout_good(file: &[u8], start: usize, count: usize) -> bool
+// From `start` on come at most 4,000 motions and then the centres.
+fn rest_laid(file: &[u8], start: usize, cells: usize) -> bool
     requires { ⌜ (complete (fieldsAt (now file) start) ≡ true) × (start ≤ length (now file)) ⌝ }
-    ensures { λ r. ⌜ r ≡ layoutGood count (listed (fieldsAt (now (file .entry)) start)) ⌝ }
+    ensures { λ r. ⌜ r ≡ layoutGood cells 0 (listed (fieldsAt (now (file .entry)) start)) ⌝ }
+{
+    let motions = leading_motions(file, start);
+    let count = motions.count;
+    let next = motions.next;
+    if MOTION_LIMIT < count {
+        return false;
+    }
+    centres_laid(file, next, cells)
+}
+
+// From `start` on come `count` states, then the motions, and then the centres of `cells` cells.
+pub fn layout_good(file: &[u8], start: usize, count: usize, cells: usize) -> bool
+    requires { ⌜ (complete (fieldsAt (now file) start) ≡ true) × (start ≤ length (now file)) ⌝ }
+    ensures { λ r. ⌜ r ≡ layoutGood cells count (listed (fieldsAt (now (file .entry)) start)) ⌝ }
 {
     let mut at = start;
     let mut left = count;
@@ -176,7 +222,7 @@ pub fn layout_good(file: &[u8], start: usize, count: usize) -> bool
             return false;
         }
     }
-    motions_laid(file, at)
+    rest_laid(file, at, cells)
 }
 
 // What a good head says: H, C, S, the margin, and where the states start.

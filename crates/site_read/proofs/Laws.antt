@@ -2,27 +2,28 @@
 -- Assumes nothing.
 use Prim.Native.Nat.{ℕ, _+_, _*_, _≤_, _<_}
 use mathlib.Core.Path.{_≡_, refl, sym, ap, _∙_}
-use mathlib.Core.List.{List, map}
+use mathlib.Core.List.{List, _∷_, map}
 use mathlib.Core.Bool.{Bool, true, false}
 use native.Mathlib.Omega.{arith}
 use lib.ListN.{length, getD, take, drop, set, length-drop, length-map}
 use lib.Seq.{drop-drop, getD-drop, drop-at, take-add, length-take-le, getD-set-same, getD-set-other}
-use lib.Dec.{leb, ltb, eqb}
-use borrow.Author.Tests.{leb-true, eqb-true, eqb-false, ltb-true, ltb-false}
-use Rattle.meaning.specs.Limits.{motionLimit, sweepLimit, motionSize, sweepSize}
+use lib.Dec.{ltb, eqb}
+use borrow.Author.Tests.{eqb-true, eqb-false, ltb-true, ltb-false}
+use Rattle.meaning.specs.Limits.{motionLimit, sweepLimit, centreTag, motionSize, sweepSize}
 use Rattle.meaning.specs.Basics.{all, u16At}
 use Rattle.meaning.specs.Answers.{accepted}
-use Rattle.meaning.specs.Fields.{listed}
-use Rattle.meaning.specs.Site.{Motion, Site, noMotion, siteOf, stateCount, isMotion, sweepCount, motionsLaid, motionOf, sweepsOf, readSite}
-use Rattle.meaning.proofs.BasicsLaws.{decide, and-left, and-right, all-head, all-tail}
-use Rattle.meaning.proofs.SiteFieldsLaws.{motion-parts}
+use Rattle.meaning.specs.Fields.{Field, listed}
+use Rattle.meaning.specs.Site.{Motion, Site, noMotion, siteOf, stateCount, beforeCentres, fromCentres, isMotion, sweepCount, motionOf, sweepsOf, readSite}
+use Rattle.meaning.proofs.BasicsLaws.{decide, all-head, all-tail}
+use Rattle.meaning.proofs.SiteFieldsLaws.{motion-parts, before-other, from-other, before-centre}
 use Rattle.meaning.proofs.SiteLaws.{read-passes}
 use Rattle.fields.specs.declared.Header.{Header}
 use Rattle.fields.specs.Places.{fieldsAt, fieldAt, Next, Whole}
 use Rattle.fields.proofs.Laws.{listed-end, next-is, value-length, value-byte, value-u16}
 use Rattle.site_sweeps.specs.Places.{sweepsAt}
 use Rattle.site_layout.specs.Laid.{statePlace, Laid}
-use Rattle.site_layout.proofs.Laws.{laid-count, laid-after, laid-motions}
+use Rattle.site_layout.proofs.Laws.{laid-count, laid-after, laid-all, laid-motions}
+use Rattle.site_layout.proofs.Laws as Layout
 use Rattle.site_read.specs.declared.Motion as ReadMotion
 use Rattle.site_read.specs.Motions.{Motions, MotionPlace}
 
@@ -98,30 +99,44 @@ motion-read file at h w e =
 
 -- ---- the motions from a place on
 
-motions-next : (file : List ℕ) (at r : ℕ) → Motions file at → Next file at r → Motions file r
-motions-next file at r m x = record { inside = x .inside; whole = x .whole; motions = all-tail isMotion _ _ (rw (x .list) at (m .motions)) }
+-- the fields before the centres, from a place on
+abbrev pub motionsAt : List ℕ → ℕ → List Field
+motionsAt file at = beforeCentres (listed (fieldsAt file at))
 
-motions-first : (file : List ℕ) (at : ℕ) → Motions file at → at < length file → isMotion (fieldAt file at) ≡ true
-motions-first file at m p = let x = next-is file at _ _ (m .whole) p refl refl in all-head isMotion _ _ (rw (x .list) at (m .motions))
+-- where one is left, it is the field at the place
+pub motions-here : (file : List ℕ) (at r : ℕ) → Next file at r → 0 < length (motionsAt file at) → motionsAt file at ≡ fieldAt file at ∷ motionsAt file r
+motions-here file at r x more =
+    decide (eqb (fieldAt file at .tag) centreTag)
+    (λ t. absurd (let none = ap length (ap beforeCentres (x .list) ∙ before-centre _ _ t) in omega arith))
+    (λ t. ap beforeCentres (x .list) ∙ before-other _ _ t)
+
+pub centres-later : (file : List ℕ) (at r : ℕ) → Next file at r → 0 < length (motionsAt file at)
+    → fromCentres (listed (fieldsAt file at)) ≡ fromCentres (listed (fieldsAt file r))
+centres-later file at r x more =
+    decide (eqb (fieldAt file at .tag) centreTag)
+    (λ t. absurd (let none = ap length (ap beforeCentres (x .list) ∙ before-centre _ _ t) in omega arith))
+    (λ t. ap fromCentres (x .list) ∙ from-other _ _ t)
+
+-- and the file goes on
+pub motions-inside : (file : List ℕ) (at : ℕ) → 0 < length (motionsAt file at) → at < length file
+unfolding beforeCentres
+motions-inside file at more =
+    decide (ltb at (length file)) (λ e. ltb-true at (length file) e)
+    (λ e. absurd (let none = ap (λ (fs : List Field). length (beforeCentres fs)) (listed-end file at (ltb-false at (length file) e)) in omega arith))
 
 -- where the motions of a file start
 pub laid-start : (file : List ℕ) (start : ℕ) → Laid file → start ≡ statePlace (length (siteOf file .states))
-    → Motions file start × (siteOf file .motions ≡ map motionOf (listed (fieldsAt file start)))
-unfolding motionsLaid
+    → Motions file start × (siteOf file .motions ≡ map motionOf (motionsAt file start))
 laid-start file start d e =
     let c = laid-count file d in
     let s : start ≡ statePlace (stateCount file) = omega arith in
     let y = laid-after file d in
-    let fs = listed (fieldsAt file (statePlace (stateCount file))) in
-    (rw s (record { inside = y .inside; whole = y .whole; motions = and-left (all isMotion fs) (leb (length fs) motionLimit) (y .motions) }), rw s (laid-motions file d))
+    (rw s (record { inside = y .inside; whole = y .whole; motions = laid-all file d }), rw s (laid-motions file d))
 
 pub laid-few : (file : List ℕ) → Laid file → length (siteOf file .motions) ≤ motionLimit
-unfolding motionsLaid
 laid-few file d =
-    let y = laid-after file d in
-    let fs = listed (fieldsAt file (statePlace (stateCount file))) in
-    let l = leb-true (length fs) motionLimit (and-right (all isMotion fs) (leb (length fs) motionLimit) (y .motions)) in
-    let m : length (siteOf file .motions) ≡ length fs = ap length (laid-motions file d) ∙ simp length-map in
+    let few = Layout.laid-few file d in
+    let m : length (siteOf file .motions) ≡ length (motionsAt file (statePlace (stateCount file))) = ap length (laid-motions file d) ∙ simp length-map in
     omega arith
 
 -- ---- the index
@@ -129,43 +144,47 @@ laid-few file d =
 -- the motions from the place at on, where n motions lie before it
 pub record Reached (file : List ℕ) (at n : ℕ) : Type 0 where
   pub motions : Motions file at
-  pub list : map motionOf (listed (fieldsAt file at)) ≡ drop n (siteOf file .motions)
-  pub count : n + length (listed (fieldsAt file at)) ≡ length (siteOf file .motions)
+  pub list : map motionOf (motionsAt file at) ≡ drop n (siteOf file .motions)
+  pub count : n + length (motionsAt file at) ≡ length (siteOf file .motions)
 
 pub reached-first : (file : List ℕ) (start : ℕ) → Laid file → start ≡ statePlace (length (siteOf file .states)) → Reached file start 0
 reached-first file start d e =
     let x = laid-start file start d e in
-    let c : length (siteOf file .motions) ≡ length (listed (fieldsAt file start)) = ap length (x .1) ∙ simp length-map in
+    let c : length (siteOf file .motions) ≡ length (motionsAt file start) = ap length (x .1) ∙ simp length-map in
     record { motions = x .0; list = sym (x .1); count = omega arith }
 
-pub reached-next : (file : List ℕ) (at r n : ℕ) → Reached file at n → Next file at r → Reached file r (n + 1)
-reached-next file at r n m x =
-    let l = ap length (x .list) in
-    let c = m .count in
-    record {
-      motions = motions-next file at r (m .motions) x;
-      list = ap (drop 1) (sym (ap (map motionOf) (x .list)) ∙ m .list) ∙ drop-drop 1 n (siteOf file .motions);
-      count = omega arith;
-    }
+module _ (file : List ℕ) (at n : ℕ) (m : Reached file at n) (more : n < length (siteOf file .motions)) where
+  left : 0 < length (motionsAt file at)
+  left = let c = m .count in omega arith
 
--- where a motion is left, the file goes on
-pub reached-inside : (file : List ℕ) (at n : ℕ) → Reached file at n → n < length (siteOf file .motions) → at < length file
-reached-inside file at n m p =
-    decide (ltb at (length file)) (λ e. ltb-true at (length file) e)
-    (λ e. absurd (let l = ap length (listed-end file at (ltb-false at (length file) e)) in let c = m .count in omega arith))
+  -- where a motion is left, the file goes on
+  pub reached-inside : at < length file
+  reached-inside = motions-inside file at left
 
-pub reached-place : (file : List ℕ) (at n : ℕ) → Reached file at n → at < length file → MotionPlace file n at
-reached-place file at n m p =
-    let x = next-is file at _ _ (m .motions .whole) p refl refl in
-    let z : n + 0 ≡ n = omega arith in
-    record {
-      inside = p;
-      whole = m .motions .whole;
-      laid = motions-first file at (m .motions) p;
-      motion =
-          ap (λ (ms : List Motion). getD ms 0 noMotion) (sym (ap (map motionOf) (x .list)) ∙ m .list)
-          ∙ getD-drop n (siteOf file .motions) 0 noMotion ∙ ap (λ (k : ℕ). getD (siteOf file .motions) k noMotion) z;
-    }
+  pub reached-next : (r : ℕ) → Next file at r → Reached file r (n + 1)
+  reached-next r x =
+      let here = motions-here file at r x left in
+      let size = ap length here in
+      let c = m .count in
+      record {
+        motions = record { inside = x .inside; whole = x .whole; motions = all-tail isMotion _ _ (ap (all isMotion) (sym here) ∙ m .motions .motions) };
+        list = ap (drop 1) (sym (ap (map motionOf) here) ∙ m .list) ∙ drop-drop 1 n (siteOf file .motions);
+        count = omega arith;
+      }
+
+  pub reached-place : MotionPlace file n at
+  reached-place =
+      let x = next-is file at _ _ (m .motions .whole) reached-inside refl refl in
+      let here = motions-here file at _ x left in
+      let z : n + 0 ≡ n = omega arith in
+      record {
+        inside = reached-inside;
+        whole = m .motions .whole;
+        laid = all-head isMotion _ _ (ap (all isMotion) (sym here) ∙ m .motions .motions);
+        motion =
+            ap (λ (ms : List Motion). getD ms 0 noMotion) (sym (ap (map motionOf) here) ∙ m .list)
+            ∙ getD-drop n (siteOf file .motions) 0 noMotion ∙ ap (λ (k : ℕ). getD (siteOf file .motions) k noMotion) z;
+      }
 
 -- a list that is filled from the front
 pub filled : (P : ℕ → ℕ → Type 0) (xs : List ℕ) (n v : ℕ) → n < length xs → ((k : ℕ) → k < n → P k (getD xs k 0)) → P n v

@@ -1,1 +1,2 @@
 pub mod Motions
+pub mod Centres

@@ -8,7 +8,7 @@ use lib.ListN.{length, getD}
 use Rattle.meaning.specs.Limits.{sweepSize}
 use Rattle.meaning.specs.Basics.{all}
 use Rattle.meaning.specs.Fields.{complete, listed}
-use Rattle.meaning.specs.Site.{Motion, isMotion, motionOf, motionAt, siteOf}
+use Rattle.meaning.specs.Site.{Motion, beforeCentres, isMotion, motionOf, motionAt, siteOf}
 use Rattle.fields.specs.Places.{fieldsAt, fieldAt}
 use Rattle.site_sweeps.specs.Places.{sweepsAt}
 use Rattle.site_read.specs.declared.Motion as ReadMotion
@@ -21,11 +21,11 @@ pub record MotionIs (file : List ℕ) (m : Motion) (r : ReadMotion.Motion) : Typ
   pub sweeps : sweepsAt file (r .first) (r .count) ≡ m .sweeps
   pub inside : r .first + sweepSize * r .count ≤ length file
 
--- from the place start on there are motions, each laid out well
+-- from the place start on there are motions, each laid out well, and then the centres
 pub record Motions (file : List ℕ) (start : ℕ) : Type 0 where
   pub inside : start ≤ length file
   pub whole : complete (fieldsAt file start) ≡ true
-  pub motions : all isMotion (listed (fieldsAt file start)) ≡ true
+  pub motions : all isMotion (beforeCentres (listed (fieldsAt file start))) ≡ true
 
 -- the field of the motion k starts at the place r
 pub record MotionPlace (file : List ℕ) (k r : ℕ) : Type 0 where

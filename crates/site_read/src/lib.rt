@@ -1,19 +1,22 @@
-// The states and the motions of a site file that is laid out well, read by place and by number.
+// The states, the motions and the centres of a site file that is laid out well, read by place and by number.
 use fields::FIELD_HEADER;
 ghost use mathlib.Core.Path.{_≡_};
 ghost use mathlib.Core.Bool.{true};
 ghost use Prim.Native.Nat.{_<_, _≤_};
 ghost use lib.ListN.{length};
 ghost use Rattle.meaning.specs.Fields.{complete};
-ghost use Rattle.meaning.specs.Site.{siteOf, stateAt, motionAt, motionOf, isMotion};
+ghost use Rattle.meaning.specs.Site.{siteOf, stateAt, motionAt, centreAt, motionOf, isMotion};
 ghost use Rattle.fields.specs.Places.{fieldsAt, fieldAt};
 ghost use Rattle.site_layout.specs.Laid.{statePlace, Laid, StateValue};
 ghost use Rattle.site_read.specs.Motions.{MotionIs, Index};
+ghost use Rattle.site_read.specs.Centres.{centreRead};
 
-// The bytes of the head's field, and of a state's.
+// The bytes of the field of the head, of a state and of a centre.
 const HEAD_FIELD: usize = FIELD_HEADER + site_layout::HEAD_SIZE;
 
 const STATE_FIELD: usize = FIELD_HEADER + site_layout::STATE_SIZE;
+
+const CENTRE_FIELD: usize = FIELD_HEADER + site_layout::CENTRE_SIZE;
 
 // Where the state `i` starts: after the head and the states before it.
 pub fn state_place(i: usize) -> usize
@@ -95,4 +98,37 @@ pub fn motion_at(file: &[u8], index: &[u16], k: usize) -> Motion
 {
     let at = index[k] as usize;
     read_motion(file, at)
+}
+
+// The motion of the number `k` without an index: found by a walk from `start`, where the motions start.
+pub fn find_motion(file: &[u8], start: usize, k: usize) -> Motion
+    requires { ⌜ Laid (now file) × (start ≡ statePlace (length (siteOf (now file) .states))) × (k < length (siteOf (now file) .motions)) ⌝ }
+    ensures { λ r. ⌜ MotionIs (now (file .entry)) (motionAt (siteOf (now (file .entry))) k) r ⌝ }
+{
+    let mut at = start;
+    let mut n = 0;
+    while n < k {
+        at = fields::next_field(file, at);
+        n += 1;
+    }
+    read_motion(file, at)
+}
+
+// A cell's centre, in millimetres.
+pub struct Centre {
+    pub x: u16,
+    pub y: u16,
+}
+
+// The centre of the cell, in a file with `centres` of them: they end the file, each in as many bytes.
+pub fn read_centre(file: &[u8], centres: usize, cell: usize) -> Centre
+    requires { ⌜ Laid (now file) × (centres ≡ length (siteOf (now file) .centres)) × (cell < centres) ⌝ }
+    ensures { λ r. ⌜ r ≡ centreRead (centreAt (siteOf (now (file .entry))) cell) ⌝ }
+{
+    let later = centres - cell;
+    let at = file.len() - CENTRE_FIELD * later;
+    Centre {
+        x: fields::u16_at(file, at + FIELD_HEADER),
+        y: fields::u16_at(file, at + FIELD_HEADER + 2),
+    }
 }

@@ -3,11 +3,11 @@
 use mathlib.Core.Path.{refl}
 use Rattle.meaning.specs.Runs.{meets}
 use Rattle.meaning.specs.Fields.{split, fields, listed}
-use Rattle.meaning.specs.Site.{sweepsOf, motionOf, headOf, laterOf, stateCount, siteOf}
+use Rattle.meaning.specs.Site.{sweepsOf, motionOf, beforeCentres, headOf, laterOf, stateCount, siteOf}
 use Rattle.worked.specs.Runs.{RunsMeet}
 
 pub runs-meet : RunsMeet
-unfolding meets split fields listed sweepsOf motionOf headOf laterOf stateCount siteOf
+unfolding meets split fields listed sweepsOf motionOf beforeCentres headOf laterOf stateCount siteOf
 runs-meet = record {
   one-tick = refl;
   one-tick-back = refl;

@@ -7,7 +7,7 @@ use lib.ListN.{length}
 use native.Mathlib.Omega.{arith}
 use Rattle.meaning.specs.Site.{siteOf, motionAt}
 use Rattle.site_read.specs.Motions.{MotionIs, MotionPlace}
-use Rattle.site_read.proofs.Laws.{read-laid, Reached, reached-first, reached-next, reached-inside, reached-place}
+use Rattle.site_read.proofs.Laws.{read-laid, Reached, reached-first, reached-next, reached-place}
 use Rattle.search_site.specs.Decoded.{MotionDecoded, motionIn}
 use Rattle.search_site.proofs.ArrayLaws.{motions-more, set-motion-length}
 use Rattle.search_site.proofs.DecodedLaws.{motion-fits}
@@ -32,7 +32,7 @@ place : (c : tie.In-loop Inv-loop μ-loop) → MotionPlace (start c .args .file 
 place c =
     let l = c .before .loop in
     let f = start c .args .file .now in
-    reached-place f (l .at) (l .m) (l .inv .2) (reached-inside f (l .at) (l .m) (l .inv .2) (more c))
+    reached-place f (l .at) (l .m) (l .inv .2) (more c)
 
 -- what was read there
 shown : (c : tie.After-read-motion Inv-loop μ-loop)
@@ -80,7 +80,7 @@ loop-again c =
     let is = put .put-motion .ensures in (
       omega arith,
       ap length is ∙ set-motion-length old (m * 5) r ∙ size,
-      reached-next f (l .at) _ m (l .inv .2) (c .next-field .ensures),
+      reached-next f (l .at) m (l .inv .2) (more d) _ (c .next-field .ensures),
       subst (λ (xs : List ℕ). (k : ℕ) → k < m + 1 → MotionDecoded f k (motionIn xs k)) (sym is)
           (motions-more (MotionDecoded f) old m r (omega (arith, b .pre .1 .1)) (l .inv .3) decoded),
     )

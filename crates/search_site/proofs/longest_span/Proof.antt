@@ -9,7 +9,7 @@ use borrow.Author.Tests.{eqb-true, eqb-false}
 use Rattle.meaning.specs.Site.{siteOf, motionAt, Motion}
 use Rattle.meaning.proofs.BasicsLaws.{decide}
 use Rattle.site_read.specs.Motions.{MotionPlace}
-use Rattle.site_read.proofs.Laws.{read-laid, Reached, reached-first, reached-next, reached-inside, reached-place}
+use Rattle.site_read.proofs.Laws.{read-laid, Reached, reached-first, reached-next, reached-place}
 use Rattle.search_site.specs.Decoded.{LongestTo}
 use Rattle.search_site.proofs.longest_span.Statement.{statement}
 use Rattle.search_site.proofs.longest_span.Tie as tie
@@ -28,7 +28,7 @@ place : (c : tie.In-loop Inv-loop μ-loop) → MotionPlace (start c .args .file 
 place c =
     let l = c .before .loop in
     let f = start c .args .file .now in
-    reached-place f (l .at) (l .m) (l .inv .1) (reached-inside f (l .at) (l .m) (l .inv .1) (omega (arith, start c .pre .1)))
+    reached-place f (l .at) (l .m) (l .inv .1) (omega (arith, start c .pre .1))
 
 loop-holds : tie.Need-loop-holds Inv-loop μ-loop
 loop-holds c =
@@ -69,7 +69,7 @@ loop-again c =
     let (ge, least) = more .larger .ensures in
     let span : read .read-motion .result .span ≡ motionAt (siteOf f) m .span = read .read-motion .ensures .span ∙ ap (λ (x : Motion). x .span) (place d .motion) in (
       omega arith,
-      reached-next f (l .at) _ m (l .inv .1) (c .next-field .ensures),
+      reached-next f (l .at) m (l .inv .1) (omega (arith, start d .pre .1)) _ (c .next-field .ensures),
       record {
         some = omega (arith, so-far .some, ge .0);
         small = least 255 (so-far .small) (omega (arith, read .read-motion .ok));

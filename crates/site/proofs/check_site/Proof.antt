@@ -5,7 +5,7 @@ use mathlib.Core.Path.{_≡_, sym, ap, _∙_}
 use mathlib.Core.Bool.{true, false}
 use borrow.Author.Tests.{not-true, not-false}
 use Rattle.meaning.specs.Fields.{fields, complete}
-use Rattle.meaning.specs.Site.{headOf, headGood, layoutGood, stateCount, laterOf}
+use Rattle.meaning.specs.Site.{headOf, headGood, layoutGood, stateCount, laterOf, siteOf}
 use Rattle.fields.specs.Places.{fieldsAt}
 use Rattle.site_layout.proofs.Laws.{head-here}
 use Rattle.site.proofs.NumberLaws.{number-1, number-2, number-3, number-4, layout-same}
@@ -62,7 +62,7 @@ returns-4 c =
     let g : headGood (headOf f) ≡ true = sym (c .before .before .before .before .head-good .ensures) ∙ not-false _ (c .before .before .before .if3 .left) in
     let r = c .before .before .read-head in
     let x = head-here f w g in
-    let t : layoutGood (stateCount f) (laterOf f) ≡ false = layout-same f (r .result) x (r .ensures) ∙ sym (c .before .layout-good .ensures) ∙ not-true _ (c .if4 .taken) in
+    let t : layoutGood (siteOf f .cells) (stateCount f) (laterOf f) ≡ false = layout-same f (r .result) x (r .ensures) ∙ sym (c .before .layout-good .ensures) ∙ not-true _ (c .if4 .taken) in
     sym (number-4 f (omega arith) w g t)
 
 check-values-requires : tie.Need-check-values-requires
@@ -72,7 +72,7 @@ check-values-requires c κs =
     let g : headGood (headOf f) ≡ true = sym (c .before .before .before .before .head-good .ensures) ∙ not-false _ (c .before .before .before .if3 .left) in
     let r = c .before .before .read-head in
     let x = head-here f w g in
-    let t : layoutGood (stateCount f) (laterOf f) ≡ true = layout-same f (r .result) x (r .ensures) ∙ sym (c .before .layout-good .ensures) ∙ not-false _ (c .if4 .left) in
+    let t : layoutGood (siteOf f .cells) (stateCount f) (laterOf f) ≡ true = layout-same f (r .result) x (r .ensures) ∙ sym (c .before .layout-good .ensures) ∙ not-false _ (c .if4 .left) in
     (omega arith, record { whole = w; head = g; layout = t }, r .ensures)
 
 returns-5 : tie.Need-returns-5

@@ -30,31 +30,34 @@ states-good-requires c κs =
     let h = a .head in
     (p .1, count-is f (p .1) h (p .2))
 
-count-fields-requires : tie.Need-count-fields-requires
-count-fields-requires c κs =
+-- where the motions start, and how many they are
+leading-motions-requires : tie.Need-leading-motions-requires
+leading-motions-requires c κs =
     let b = c .before .before .before in
     let p = b .pre in
-    let x = motions-start (b .args .file .now) (p .1) (b .args .head) (p .2) _ (c .before .state-place .ensures) .0 in
-    (x .whole, x .inside)
+    motions-start (b .args .file .now) (p .1) (b .args .head) (p .2) _ (c .before .state-place .ensures)
+
+count-fields-requires : tie.Need-count-fields-requires
+count-fields-requires c κs = let r = c .leading-motions .ensures in (r .whole, r .inside)
 
 motions-good-requires : tie.Need-motions-good-requires
 motions-good-requires c κs =
-    let b = c .before .before .before .before in
+    let b = c .before .before .before .before .before in
     let p = b .pre in
     let f = b .args .file .now in
     let h = b .args .head in
-    let place = c .before .before .state-place .ensures in
+    let place = c .before .before .before .state-place .ensures in
     let count = count-is f (p .1) h (p .2) in
-    ((p .1, place ∙ ap statePlace count, motions-count f (p .1) h (p .2) _ _ place (c .count-fields .ensures)), (p .2 .cells, count))
+    ((p .1, place ∙ ap statePlace count, motions-count f (p .1) h (p .2) _ place _ (c .before .leading-motions .ensures)), (p .2 .cells, count))
 
 -- the tests that the two functions made, from behind both
 abbrev start : tie.After-motions-good → tie.Start
-start c = c .before .before .before .before .before
+start c = c .before .before .before .before .before .before
 
-states-are : (c : tie.After-motions-good) → let f = start c .args .file .now in c .before .before .states-good .result ≡ all (cellGood (siteOf f .cells)) (siteOf f .states)
+states-are : (c : tie.After-motions-good) → let f = start c .args .file .now in c .before .before .before .states-good .result ≡ all (cellGood (siteOf f .cells)) (siteOf f .states)
 states-are c =
     let f = start c .args .file .now in
-    c .before .before .states-good .ensures ∙ ap (λ (k : ℕ). all (cellGood k) (siteOf f .states)) (start c .pre .2 .cells)
+    c .before .before .before .states-good .ensures ∙ ap (λ (k : ℕ). all (cellGood k) (siteOf f .states)) (start c .pre .2 .cells)
 
 returns : tie.Need-returns
 returns c =
@@ -73,9 +76,11 @@ returns-3 c =
     let at = c .before .before in
     let b = start at in
     let p = b .pre in
+    let counted = at .before in
     sym
     (number-0 _ (p .0) (p .1) (sym (states-are at) ∙ not-false _ (c .before .if1 .left)) (sym (at .motions-good .ensures) ∙ not-false _ (c .if2 .left))
-    ∙ accepted-is (b .args .file .now) (p .1) (b .args .head) (p .2) _ _ (at .before .before .before .state-place .ensures) (at .before .count-fields .ensures))
+    ∙ accepted-is (b .args .file .now) (p .1) (b .args .head) (p .2) _ (counted .before .before .before .state-place .ensures) _
+    (counted .before .leading-motions .ensures) _ (counted .count-fields .ensures))
 
 pub check-values-spec : {M : Type 1} → statement M
 check-values-spec =
@@ -83,6 +88,7 @@ check-values-spec =
     (tie.spec
     state-place-requires
     states-good-requires
+    leading-motions-requires
     count-fields-requires
     motions-good-requires
     returns

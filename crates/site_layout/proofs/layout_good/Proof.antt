@@ -14,13 +14,13 @@ use Rattle.site_layout.proofs.layout_good.Statement.{statement}
 use Rattle.site_layout.proofs.layout_good.Tie as tie
 
 abbrev Inv-loop : tie.InvT-loop
-Inv-loop file start count at₀ left₀ at left =
+Inv-loop file start count cells at₀ left₀ at left =
     (at ≤ length file)
     × (complete (fieldsAt file at) ≡ true)
-    × (layoutGood left (listed (fieldsAt file at)) ≡ layoutGood count (listed (fieldsAt file start)))
+    × (layoutGood cells left (listed (fieldsAt file at)) ≡ layoutGood cells count (listed (fieldsAt file start)))
 
 abbrev μ-loop : tie.MeasureT-loop
-μ-loop file start count at₀ left₀ at left = left
+μ-loop file start count cells at₀ left₀ at left = left
 
 loop-holds : tie.Need-loop-holds Inv-loop μ-loop
 loop-holds c = (c .before .pre .1, c .before .pre .0, refl)
@@ -45,21 +45,21 @@ loop-again c =
     let f = c .before .before .before .before .before .before .args .file .now in
     let l = c .before .before .before .before .loop in
     let x = c .next-field .ensures in
-    let e = layout-next f (l .at) _ (l .left) (omega arith) (sym (c .before .before .is-state .ensures) ∙ c .before .if1 .taken) x in
+    let e = layout-next (c .before .before .before .before .before .before .args .cells) f (l .at) _ (l .left) (omega arith) (sym (c .before .before .is-state .ensures) ∙ c .before .if1 .taken) x in
     (x .inside, x .whole, sym e ∙ l .inv .2)
 
 returns : tie.Need-returns Inv-loop μ-loop
 returns c =
     let l = c .before .before .before .loop in
-    sym (layout-miss _ (l .left) (omega arith) (sym (c .before .is-state .ensures) ∙ c .if1 .left)) ∙ l .inv .2
+    sym (layout-miss _ _ (l .left) (omega arith) (sym (c .before .is-state .ensures) ∙ c .if1 .left)) ∙ l .inv .2
 
-motions-laid-requires : tie.Need-motions-laid-requires Inv-loop μ-loop
-motions-laid-requires c κs = (c .before .loop .inv .1, c .before .loop .inv .0)
+rest-laid-requires : tie.Need-rest-laid-requires Inv-loop μ-loop
+rest-laid-requires c κs = (c .before .loop .inv .1, c .before .loop .inv .0)
 
 returns-2 : tie.Need-returns-2 Inv-loop μ-loop
 returns-2 c =
     let l = c .before .before .loop in
-    c .motions-laid .ensures ∙ sym (layout-none _ (l .left) (omega arith)) ∙ l .inv .2
+    c .rest-laid .ensures ∙ sym (layout-none _ _ (l .left) (omega arith)) ∙ l .inv .2
 
 pub layout-good-spec : {M : Type 1} → statement M
 layout-good-spec =
@@ -74,5 +74,5 @@ layout-good-spec =
     loop-less
     loop-again
     returns
-    motions-laid-requires
+    rest-laid-requires
     returns-2)

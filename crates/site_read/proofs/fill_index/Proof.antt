@@ -5,7 +5,7 @@ use mathlib.Core.Path.{_≡_, refl, _∙_}
 use lib.ListN.{length, getD, length-set}
 use native.Mathlib.Omega.{arith}
 use Rattle.site_read.specs.Motions.{MotionPlace}
-use Rattle.site_read.proofs.Laws.{Reached, reached-first, reached-next, reached-inside, reached-place, filled}
+use Rattle.site_read.proofs.Laws.{Reached, reached-first, reached-next, reached-place, filled}
 use Rattle.site_read.proofs.fill_index.Statement.{statement}
 use Rattle.site_read.proofs.fill_index.Tie as tie
 
@@ -24,7 +24,7 @@ place : (c : tie.In-loop Inv-loop μ-loop) → MotionPlace (start c .args .file 
 place c =
     let l = c .before .loop in
     let f = start c .args .file .now in
-    reached-place f (l .at) (l .number) (l .inv .1) (reached-inside f (l .at) (l .number) (l .inv .1) (omega (arith, start c .pre .0 .3)))
+    reached-place f (l .at) (l .number) (l .inv .1) (omega (arith, start c .pre .0 .3))
 
 loop-holds : tie.Need-loop-holds Inv-loop μ-loop
 loop-holds c =
@@ -57,7 +57,7 @@ loop-again c =
     let l = d .before .loop in
     let size = l .inv .0 in (
       length-set (l .index) (l .number) (l .at) ∙ size,
-      reached-next f (l .at) _ (l .number) (l .inv .1) (c .next-field .ensures),
+      reached-next f (l .at) (l .number) (l .inv .1) (omega (arith, b .pre .0 .3)) _ (c .next-field .ensures),
       filled (MotionPlace f) (l .index) (l .number) (l .at) (omega (arith, b .pre .1)) (l .inv .2) (place d),
     )
 

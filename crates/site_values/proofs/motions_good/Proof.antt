@@ -29,7 +29,7 @@ motion-good-requires c κs =
     let f = c .before .before .before .args .file .now in
     let p = c .before .before .before .pre in
     let l = c .before .loop in
-    let m = reached-place f (l .at) (l .n) (l .inv .0) (reached-inside f (l .at) (l .n) (l .inv .0) (omega (arith, p .0 .2))) in
+    let m = reached-place f (l .at) (l .n) (l .inv .0) (omega (arith, p .0 .2)) in
     ((p .0 .0, m .whole, m .inside, m .laid), p .1)
 
 next-field-requires : tie.Need-next-field-requires Inv-loop μ-loop
@@ -49,16 +49,16 @@ loop-again c =
     let f = c .before .before .before .before .before .before .args .file .now in
     let l = c .before .before .before .before .loop in
     let more : l .n < length (siteOf f .motions) = omega (arith, c .before .before .before .before .before .before .pre .0 .2) in
-    let m = reached-place f (l .at) (l .n) (l .inv .0) (reached-inside f (l .at) (l .n) (l .inv .0) more) in
+    let m = reached-place f (l .at) (l .n) (l .inv .0) more in
     let e = ap (motionGood (siteOf f)) (sym (m .motion)) ∙ sym (c .before .before .motion-good .ensures) ∙ c .before .if1 .taken in
-    (reached-next f (l .at) _ (l .n) (l .inv .0) (c .next-field .ensures), sym (rest-hit (motionGood (siteOf f)) noMotion (siteOf f .motions) (l .n) more e) ∙ l .inv .1)
+    (reached-next f (l .at) (l .n) (l .inv .0) more _ (c .next-field .ensures), sym (rest-hit (motionGood (siteOf f)) noMotion (siteOf f .motions) (l .n) more e) ∙ l .inv .1)
 
 returns : tie.Need-returns Inv-loop μ-loop
 returns c =
     let f = c .before .before .before .before .before .args .file .now in
     let l = c .before .before .before .loop in
     let more : l .n < length (siteOf f .motions) = omega (arith, c .before .before .before .before .before .pre .0 .2) in
-    let m = reached-place f (l .at) (l .n) (l .inv .0) (reached-inside f (l .at) (l .n) (l .inv .0) more) in
+    let m = reached-place f (l .at) (l .n) (l .inv .0) more in
     let e = ap (motionGood (siteOf f)) (sym (m .motion)) ∙ sym (c .before .motion-good .ensures) ∙ c .if1 .left in
     sym (rest-miss (motionGood (siteOf f)) noMotion (siteOf f .motions) (l .n) more e) ∙ l .inv .1
 
