@@ -2,7 +2,7 @@
 -- values read back from the word that is returned. `Learnt` and its arguments are those of crates/desk_board/proofs/ContractLaws.antt.
 -- Assumes nothing.
 use Prim.Native.Nat.{ℕ}
-use mathlib.Core.Path.{_≡_, refl, ap₂, subst}
+use mathlib.Core.Path.{_≡_, refl, ap, ap₂, _∙_, subst}
 use mathlib.Core.List.{List, []}
 use lib.Dec.{ltb}
 use borrow.Author.Tests.{ltb-true, ltb-false}
@@ -14,6 +14,7 @@ use Rattle.meaning.proofs.AreaLaws.{BoardCall}
 use Rattle.meaning.proofs.Theorems.{exact-demands}
 use Rattle.meaning.specs.Plan.{node}
 use Rattle.meaning.proofs.BasicsLaws.{decide}
+use Rattle.meaning.specs.Pictures.{drawMeant}
 use Rattle.travel_runs.specs.Entries.{fewest}
 use Rattle.travel_runs.specs.Travel.{Returned, travelMeant, TravelExact, TravelDemand}
 use Rattle.travel_runs.proofs.CallLaws.{meant-entry, meant-refused}
@@ -23,6 +24,13 @@ use Rattle.answers.specs.Answers.{countedOf, grantedOf}
 use Rattle.answers.proofs.DeskLaws.{boardDone, board-exact, audit-exact, interval-exact, route-exact, lifetimes, lend, turns, AllowsSome, allows-meant, every-run}
 use Rattle.answers_c.specs.Words.{countedWord, grantedWord, wordNumber, countedIn, grantedIn}
 use Rattle.answers_c.proofs.WordLaws.{counted-back, number-back, interval-back, route-back}
+use Rattle.draw.specs.declared.Drawn.{Drawn}
+use Rattle.draw.specs.Drawn.{drawnOf}
+use Rattle.draw.specs.Demand.{DrawExact, DrawDemand}
+use Rattle.draw.proofs.Demands.{exact-demand}
+use Rattle.draw_c.specs.declared.DrawnWord.{DrawnWord}
+use Rattle.draw_c.specs.Words.{drawnWord, drawnIn}
+use Rattle.draw_c.proofs.WordLaws.{drawn-back}
 use Rattle.dispatch_c.proofs.dispatch_open.Reads as open-reads
 use Rattle.dispatch_c.proofs.dispatch_interval.Reads as interval-reads
 use Rattle.dispatch_c.proofs.dispatch_route.Reads as route-reads
@@ -31,6 +39,7 @@ use Rattle.dispatch_c.proofs.dispatch_post.Reads as post-reads
 use Rattle.dispatch_c.proofs.dispatch_close.Reads as close-reads
 use Rattle.dispatch_c.proofs.dispatch_withdraw.Reads as withdraw-reads
 use Rattle.dispatch_c.proofs.dispatch_travel.Reads as travel-reads
+use Rattle.dispatch_c.proofs.dispatch_draw.Reads as draw-reads
 
 -- `Exported file lent call done`: the contract of the call's exported function allows a word `w` that reads so, and these areas after
 -- it. Each parameter as the function leaves it has a name of its own, so that what stays is learnt from the contract and from nothing else.
@@ -113,6 +122,8 @@ pub record Unchanged : Type 0 where
       → close-reads.Learnt κs (file, (board, (h, (cell, (first, (last, tt)))))) w (file′, (left, (h′, (cell′, (first′, (last′, tt)))))) → now file′ ≡ now file
   pub withdraws : (κs : Lfts 2) (file board file′ left : RefT (List ℕ)) (h h′ : ℕ) (w : ℕ)
       → withdraw-reads.Learnt κs (file, (board, (h, tt))) w (file′, (left, (h′, tt))) → now file′ ≡ now file
+  pub draws : (κs : Lfts 2) (file light file′ light′ : RefT (List ℕ)) (i k i′ k′ : ℕ) (r : DrawnWord)
+      → draw-reads.Learnt κs (file, (light, (i, (k, tt)))) r (file′, (light′, (i′, (k′, tt)))) → (now file′ ≡ now file) × (now light′ ≡ now light)
 
 pub unchanged : Unchanged
 unchanged = record {
@@ -123,6 +134,7 @@ unchanged = record {
   posts = λ κs file board light file′ left light′ w p. (p .1 .1 .0, p .1 .1 .1);
   closes = λ κs file board file′ left h cell first last h′ cell′ first′ last′ w p. p .1 .1;
   withdraws = λ κs file board file′ left h h′ w p. p .1 .1;
+  draws = λ κs file light file′ light′ i k i′ k′ r p. p .1;
 }
 
 -- ---- the functions ask nothing of their callers: `Asked` is what a contract requires
@@ -137,6 +149,7 @@ pub record AsksNothing : Type 0 where
   pub closes : (κs : Lfts 2) (file board : RefT (List ℕ)) (h cell first last : ℕ) → close-reads.Asked κs (file, (board, (h, (cell, (first, (last, tt))))))
   pub withdraws : (κs : Lfts 2) (file board : RefT (List ℕ)) (h : ℕ) → withdraw-reads.Asked κs (file, (board, (h, tt)))
   pub travels : (κs : Lfts 0) (d : ℕ) → travel-reads.Asked κs (d, tt)
+  pub draws : (κs : Lfts 2) (file light : RefT (List ℕ)) (i k : ℕ) → draw-reads.Asked κs (file, (light, (i, (k, tt))))
 
 pub asks-nothing : AsksNothing
 asks-nothing = record {
@@ -148,6 +161,7 @@ asks-nothing = record {
   closes = λ κs file board h cell first last. tt;
   withdraws = λ κs file board h. tt;
   travels = λ κs d. tt;
+  draws = λ κs file light i k. tt;
 }
 
 -- ---- the claims are not empty: the contracts allow what is meant of every call, and so a run of every list
@@ -221,3 +235,25 @@ travel-can d =
     let may : ExportedTravel d (returnedIn (countedWord (timedOf (travelMeant d)))) =
     ExportedTravel.travels (lifetimes 0) d d (countedWord (timedOf (travelMeant d))) refl in
     subst (ExportedTravel d) (travel-exact d _ may) may
+
+-- ---- draw, which is lent a site file and a light for reading
+
+-- `ExportedDraw file light step frame drawn`: the contract of dispatch_draw allows what reads so
+pub data ExportedDraw : List ℕ → List ℕ → ℕ → ℕ → Drawn → Type 0 where
+  draws : (κs : Lfts 2) (file light file′ light′ : RefT (List ℕ)) (i k i′ k′ : ℕ) (r : DrawnWord)
+      → draw-reads.Learnt κs (file, (light, (i, (k, tt)))) r (file′, (light′, (i′, (k′, tt)))) → ExportedDraw (now file) (now light) i k (drawnIn r)
+
+pub draw-exact : DrawExact ExportedDraw
+draw-exact file light i k d (ExportedDraw.draws κs f l f′ l′ j h j′ h′ r p) = ap drawnIn (p .0) ∙ drawn-back (now f) (now l) j h
+
+-- so it gives the picture that the words say, its numbers exactly, or the lowest number that applies
+pub draw-demand : DrawDemand ExportedDraw
+draw-demand = exact-demand ExportedDraw draw-exact
+
+-- and the claim is not empty
+pub draw-can : (file light : List ℕ) (i k : ℕ) → ExportedDraw file light i k (drawnOf (drawMeant file light i k))
+draw-can file light i k =
+    let is : DrawnWord = drawnWord (drawnOf (drawMeant file light i k)) in
+    let may : ExportedDraw file light i k (drawnIn is) =
+    ExportedDraw.draws (lifetimes 2) (lend file) (lend light) (lend file) (lend light) i k i k is (refl, (refl, refl)) in
+    subst (ExportedDraw file light i k) (draw-exact file light i k _ may) may

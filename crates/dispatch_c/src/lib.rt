@@ -1,12 +1,17 @@
-// The public calls for C: each answers one word, from which a caller reads the number and the values back.
+// The public calls for C: each answers one word, from which a caller reads the number and the values back. Draw answers its picture's
+// floats beside the word.
+use draw_c::DrawnWord;
 ghost use mathlib.Core.Path.{_≡_};
 ghost use mathlib.Core.List.{[]};
 ghost use Rattle.meaning.specs.Calls.{opening, interval, listed, route, audit, post, close, withdraw, meant, lends, onBoard};
 ghost use Rattle.meaning.specs.Plan.{node};
+ghost use Rattle.meaning.specs.Pictures.{drawMeant};
 ghost use Rattle.travel_runs.specs.Travel.{travelMeant};
 ghost use Rattle.travel.specs.Timed.{timedOf};
 ghost use Rattle.answers.specs.Answers.{countedOf, grantedOf};
 ghost use Rattle.answers_c.specs.Words.{countedWord, grantedWord};
+ghost use Rattle.draw.specs.Drawn.{drawnOf};
+ghost use Rattle.draw_c.specs.Words.{drawnWord};
 
 #[no_mangle]
 pub extern "C" fn dispatch_open(file: &[u8], board: &mut [u8]) -> u64
@@ -98,4 +103,13 @@ pub extern "C" fn dispatch_travel(distance: u32) -> u64
     ensures { λ r. ⌜ r ≡ countedWord (timedOf (travelMeant distance)) ⌝ }
 {
     answers_c::counted_word(dispatch::travel(distance))
+}
+
+#[no_mangle]
+pub extern "C" fn dispatch_draw(file: &[u8], light: &[u8], step: u16, frame: u8) -> DrawnWord
+    ensures { λ r. ⌜ r ≡ drawnWord (drawnOf (drawMeant (now (file .entry)) (now (light .entry)) step frame)) ⌝ }
+    ensures { λ _. ⌜ now (file .exit) ≡ now (file .entry) ⌝ }
+    ensures { λ _. ⌜ now (light .exit) ≡ now (light .entry) ⌝ }
+{
+    draw_c::drawn_word(draw::draw(file, light, step, frame))
 }

@@ -1,0 +1,4 @@
+pub mod Drawable
+pub mod Steps
+pub mod Drawn
+pub mod Demand

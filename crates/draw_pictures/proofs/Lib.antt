@@ -1,0 +1,4 @@
+pub mod OneFloat
+pub mod Sixteenths
+pub mod Theorems
+pub mod Cases
