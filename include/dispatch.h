@@ -4,11 +4,13 @@
  *
  * Slices. A slice is a pointer and a number of elements, not of bytes. A slice of 0 elements may be a null pointer.
  *
- * Answers. A call returns one word. Its low 8 bits are the number: DISPATCH_ACCEPTED, which is 0, or the reason of the
- * refusal. The other bits are 0 but for these values of an accepted call, which the macros below read:
+ * Answers. A call returns one word; dispatch_draw returns a struct by value, and its field word is as the word of every call.
+ * The low 8 bits are the number: DISPATCH_ACCEPTED, which is 0, or the reason of the refusal. The other bits are 0 but for
+ * these values of an accepted call, which the macros below read:
  *   dispatch_interval   the number of intervals, in the bits from 8 on
  *   dispatch_travel     the ticks, in the bits from 8 on
  *   dispatch_route      the light's length in bytes in the bits 8 to 31, the arrival in the bits from 32 on
+ *   dispatch_draw       the kind of picture, in the bits from 8 on
  *
  * Refusals. There is exactly one reason each time, the first that applies, and a refused call leaves every area as it was,
  * with one exception: DISPATCH_NO_PLAN leaves the first DISPATCH_WORK_WORDS of the working area zero.
@@ -39,7 +41,7 @@
     X(DISPATCH_SITE_TOO_LONG, 1, "the site file has more than 65,536 bytes")                                                \
     X(DISPATCH_SITE_CUT, 2, "a field of the site file runs past the file's end")                                            \
     X(DISPATCH_SITE_HEAD, 3, "the site file does not begin with a head of 7 bytes with H, C, S and m in range")             \
-    X(DISPATCH_SITE_LAYOUT, 4, "the site file's states or motions have a wrong tag, length, order or number")               \
+    X(DISPATCH_SITE_LAYOUT, 4, "the site file's states, motions or centres have a wrong tag, length, order or number")      \
     X(DISPATCH_STATE_CELL, 5, "a state of the site names a cell that the hall does not have")                               \
     X(DISPATCH_MOTION, 6, "a motion of the site breaks a rule on its values or sweeps")                                     \
     X(DISPATCH_BOARD_LENGTH, 7, "the board does not have the length that the site needs")                                   \
@@ -54,7 +56,8 @@
     X(DISPATCH_STALE_LIGHT, 16, "the light was made from another edition of the board")                                     \
     X(DISPATCH_CONFLICT, 17, "a wanted cell is held or near a tug, or the light is no valid plan to its goal and arrival")  \
     X(DISPATCH_NO_PLAN, 18, "no valid plan exists")                                                                         \
-    X(DISPATCH_TOO_FAR, 19, "the distance is above 511 decimetres")
+    X(DISPATCH_TOO_FAR, 19, "the distance is above 511 decimetres")                                                         \
+    X(DISPATCH_NO_PICTURE, 20, "the frame is above 16, or the site has no centres")
 
 /* As an enum; DISPATCH_NUMBER_COUNT is how many there are, 0 included. */
 #define DISPATCH_ENTRY(name, number, text) name = number,
@@ -77,6 +80,25 @@ static inline const char *dispatch_text(int number) {
 #define DISPATCH_TICKS(word) ((uint32_t)((word) >> 8))               /* of dispatch_travel */
 #define DISPATCH_LENGTH(word) ((size_t)((word) >> 8 & 0xffffff))     /* of dispatch_route: bytes of the light */
 #define DISPATCH_ARRIVAL(word) ((uint32_t)((word) >> 32))            /* of dispatch_route */
+#define DISPATCH_PICTURE(word) ((int)((word) >> 8 & 0xff))           /* of dispatch_draw: one of the kinds below */
+
+/* The kinds of picture. */
+enum dispatch_picture {
+    DISPATCH_OFF_FLOOR = 0, /* the tug is not on the floor */
+    DISPATCH_STANDING = 1,  /* it stands at a place */
+    DISPATCH_ROLLING = 2    /* it rolls at a place, with a share of its motion */
+};
+
+/* The last frame of a step; the first is 0. */
+#define DISPATCH_LAST_FRAME 16
+
+/* What dispatch_draw returns. The place is in millimetres, as the centres of the site file are. */
+typedef struct dispatch_drawn {
+    uint64_t word; /* the number and the kind of picture */
+    float x;       /* of the place; 0 if there is none: refused, or off the floor */
+    float y;       /* the same */
+    float share;   /* of the motion, frame / 16; 0 unless the tug rolls */
+} dispatch_drawn;
 
 /* The last tick H, the number of cells C, the number of states S and the margin m, as the head of a site file has them. They
  * are read from its first 10 bytes, and are in range once a call has accepted the file. So size the board by them, open it,
@@ -108,7 +130,7 @@ static inline const char *dispatch_text(int number) {
 
 /* The most bytes of stack that a call takes, also to refuse. A thread needs some more for itself: 16 KiB are plenty. */
 #define DISPATCH_STACK_ROUTE 1000000 /* dispatch_route */
-#define DISPATCH_STACK_LIGHT 66000   /* dispatch_audit and dispatch_post */
+#define DISPATCH_STACK_LIGHT 66000   /* dispatch_audit, dispatch_post, dispatch_draw */
 #define DISPATCH_STACK 1000          /* each of the others */
 
 #ifdef __cplusplus
@@ -155,6 +177,16 @@ uint64_t dispatch_withdraw(const uint8_t *site, size_t site_len, uint8_t *board,
  * the last tick, at most 15 decimetres a tick, and changes by at most 1 from a tick to the next. It needs no site and no
  * board. A distance above 511 is refused with DISPATCH_TOO_FAR, its only refusal. */
 uint64_t dispatch_travel(uint32_t distance);
+
+/* Draws one step of a light, counted from 0, at a frame from 0 to DISPATCH_LAST_FRAME. A motion rolls from the centre of its
+ * from state's cell to that of its to state's: 16 x is exactly 16 times the old centre's x plus frame times the difference,
+ * and so is y, without rounding. A wait stands where the motion before it ends, or at the centre of the start state's cell
+ * if it is the first step. A step past the last, up to 65,535, is off the floor. No area is lent for writing, and no board at
+ * all: any light that names what the site has is drawn, posted or not, whatever its tug, edition and plan are.
+ * DISPATCH_NO_PICTURE means that the frame is above 16, also past the last step, or that the site has no centres. The centres
+ * are read by this call alone; to the others it only matters that there are C of them or none. */
+dispatch_drawn dispatch_draw(const uint8_t *site, size_t site_len, const uint8_t *light, size_t light_len,
+                             uint16_t step, uint8_t frame);
 
 #ifdef __cplusplus
 }

@@ -1,6 +1,6 @@
 //! The worked hall 'Four in line', from its numbers as docs/FORMATS.md has them.
 
-use crate::literal::{encode, Motion, Site, State, Sweep};
+use crate::literal::{encode, Centre, Motion, Site, State, Sweep};
 
 fn motion(from: u16, to: u16, d: u8, sweeps: &[(u16, u8, u8)]) -> Motion {
     Motion { from, to, d, sweeps: sweeps.iter().map(|&(cell, a, b)| Sweep { cell, a, b }).collect() }
@@ -21,7 +21,14 @@ pub fn with_margin(margin: usize) -> Site {
             motion(1, 2, 2, &[(1, 0, 2)]),
             motion(2, 3, 2, &[(1, 0, 1), (2, 1, 2)]),
         ],
+        centres: vec![],
     }
+}
+
+/// The hall with a margin and the centres that docs/FORMATS.md gives it.
+pub fn with_centres(margin: usize) -> Site {
+    let centres = [(0, 0), (1_000, 0), (2_000, 500), (3_000, 500)];
+    Site { centres: centres.map(|(x, y)| Centre { x, y }).to_vec(), ..with_margin(margin) }
 }
 
 pub fn site() -> Site {
@@ -30,6 +37,11 @@ pub fn site() -> Site {
 
 pub fn bytes() -> Vec<u8> {
     encode(&site())
+}
+
+/// The file with centres.
+pub fn drawn_bytes() -> Vec<u8> {
+    encode(&with_centres(0))
 }
 
 /// The light of case B.

@@ -1,7 +1,8 @@
 //! Seeded generators: sites, damaged files, boards, lights and calls.
 
-use crate::literal::{encode, encode_fields, number, put, with_head, Light, Motion, Site, State, Step, Sweep};
-use crate::literal::{HEAD_LEN, MAX_CELLS, MAX_DWELL, MAX_H, MAX_MARGIN, MAX_MOTIONS, MAX_SITE, MAX_STATES, MAX_SWEEPS, MOTION_LEN, STATE_LEN, SWEEP_LEN};
+use crate::literal::{encode, encode_fields, number, put, with_head, Centre, Light, Motion, Site, State, Step, Sweep};
+use crate::literal::{CENTRE_LEN, HEAD_LEN, LAST_FRAME, MOTION_LEN, STATE_LEN, SWEEP_LEN};
+use crate::literal::{MAX_CELLS, MAX_DWELL, MAX_H, MAX_MARGIN, MAX_MOTIONS, MAX_SITE, MAX_STATES, MAX_SWEEPS};
 use crate::{literal_desk, plain};
 
 /// A small generator of numbers (splitmix64), so that a seed gives the same run everywhere.
@@ -133,6 +134,37 @@ pub fn any_margin(rng: &mut Rng) -> usize {
     }
 }
 
+/// A coordinate: of any size, at its limits, or one whose bytes differ.
+fn coordinate(rng: &mut Rng) -> u16 {
+    let any = rng.draw() as u16;
+    let near = rng.range(0, 4_000) as u16;
+    rng.pick(&[any, any, any, near, near, near, 0, 65_535, 1, 255, 256, 32_768])
+}
+
+/// The centres of so many cells: in a line as in 'Four in line', down a line, all at one place, or anywhere.
+pub fn centres(rng: &mut Rng, c: usize) -> Vec<Centre> {
+    let (x, y) = (coordinate(rng), coordinate(rng));
+    let kind = rng.below(8);
+    let centre = |cell: usize| match kind {
+        0 => Centre { x: (cell * 65_535 / c) as u16, y: (cell % 10) as u16 },
+        1 => Centre { x: 65_535 - (cell * 65_535 / c) as u16, y: 65_535 },
+        2 => Centre { x, y },
+        3 => Centre { x: if cell % 2 == 0 { 0 } else { 65_535 }, y: if cell % 3 == 0 { 65_535 } else { 0 } },
+        4 => Centre { x, y: coordinate(rng) },
+        _ => Centre { x: coordinate(rng), y: coordinate(rng) },
+    };
+    (0..c).map(centre).collect()
+}
+
+/// How many of 100 sites have centres.
+const WITH_CENTRES: usize = 40;
+
+/// The site with centres, or, more often, without.
+pub fn perhaps_centres(rng: &mut Rng, site: Site) -> Site {
+    let centres = if rng.percent(WITH_CENTRES) { centres(rng, site.c) } else { vec![] };
+    Site { centres, ..site }
+}
+
 fn row_site(rng: &mut Rng, margin: usize, more: usize) -> Site {
     let c = rng.range(2, 9);
     let mut states = Vec::new();
@@ -164,7 +196,7 @@ fn row_site(rng: &mut Rng, margin: usize, more: usize) -> Site {
     for i in (1..motions.len()).rev() {
         motions.swap(i, rng.below(i + 1));
     }
-    Site { h: rng.range(8, 60) + more, c, margin, states, motions }
+    Site { h: rng.range(8, 60) + more, c, margin, states, motions, centres: vec![] }
 }
 
 /// The number of cells of a large hall: often that of the new works, or at the limit, or just above what one byte can name.
@@ -174,7 +206,7 @@ fn hall_cells(rng: &mut Rng) -> usize {
 }
 
 /// The same site in a hall of so many cells, more than 255. Its cells become cells whose low bytes agree, so that a lost high byte makes one cell of several,
-/// and cells next to each other at that; those at the ends of the hall and of the low byte are among them.
+/// and cells next to each other at that; those at the ends of the hall and of the low byte are among them. A site with centres gets other ones.
 pub fn spread(rng: &mut Rng, mut site: Site, hall: usize) -> Site {
     let mut cells: Vec<u16> = Vec::new();
     while cells.len() < site.c {
@@ -190,6 +222,9 @@ pub fn spread(rng: &mut Rng, mut site: Site, hall: usize) -> Site {
         sweep.cell = cells[sweep.cell as usize];
     }
     site.c = hall;
+    if !site.centres.is_empty() {
+        site.centres = centres(rng, hall);
+    }
     site
 }
 
@@ -205,14 +240,15 @@ fn any_span(rng: &mut Rng) -> usize {
     }
 }
 
-/// A site with as many motions as wanted, or as its file has room for. The less room is left, the more of them stay within a cell, where one sweep is enough.
-fn crowded(rng: &mut Rng, h: usize, c: usize, margin: usize, s: usize, wanted: usize) -> Site {
+/// A site with as many motions as wanted, or as its file has room for beside the centres of so many cells. The less room is left, the more of them stay
+/// within a cell, where one sweep is enough.
+fn crowded(rng: &mut Rng, h: usize, c: usize, margin: usize, s: usize, wanted: usize, drawn: usize) -> Site {
     const LEAST: usize = 3 + MOTION_LEN + SWEEP_LEN;
     let states = any_states(rng, c, s);
     let mut by_cell = vec![vec![]; c];
     states.iter().enumerate().for_each(|(state, at)| by_cell[at.cell as usize].push(state));
     by_cell.retain(|here| here.len() > 1);
-    let mut room = MAX_SITE - (3 + HEAD_LEN) - s * (3 + STATE_LEN);
+    let mut room = MAX_SITE - (3 + HEAD_LEN) - s * (3 + STATE_LEN) - drawn * (3 + CENTRE_LEN);
     let mut motions = Vec::new();
     for left in (1..=wanted).rev() {
         let spare = room.saturating_sub(left * LEAST) / SWEEP_LEN;
@@ -232,41 +268,47 @@ fn crowded(rng: &mut Rng, h: usize, c: usize, margin: usize, s: usize, wanted: u
             motions.push(made);
         }
     }
-    Site { h, c, margin, states, motions }
+    Site { h, c, margin, states, motions, centres: vec![] }
 }
 
 fn many_site(rng: &mut Rng, margin: usize) -> Site {
     let any = rng.range(257, MAX_STATES);
     let (h, c, s) = (rng.range(16, 40), rng.range(1, 9), rng.pick(&[257, MAX_STATES, any]));
     let motions = rng.pick(&[300, 2_001, MAX_MOTIONS]);
-    let many = crowded(rng, h, c, margin, s, motions);
-    if rng.percent(50) {
-        let hall = hall_cells(rng);
-        spread(rng, many, hall)
-    } else {
-        many
-    }
+    let hall = if rng.percent(50) { hall_cells(rng) } else { c };
+    let drawn = if rng.percent(WITH_CENTRES) { hall } else { 0 };
+    let many = crowded(rng, h, c, margin, s, motions, drawn);
+    let spread = if hall > c { spread(rng, many, hall) } else { many };
+    Site { centres: if drawn > 0 { centres(rng, hall) } else { vec![] }, ..spread }
 }
 
 fn large_site(rng: &mut Rng, margin: usize) -> Site {
     let (h, c) = (rng.pick(&[MAX_H, MAX_H, 999, 960]), rng.pick(&[MAX_CELLS, 999, 640, 40]));
     let (s, motions) = (rng.pick(&[MAX_STATES, MAX_STATES - 1, 65]), rng.pick(&[MAX_MOTIONS, MAX_MOTIONS - 1, 1_200]));
-    let mut large = crowded(rng, h, c, margin, s, motions);
+    let drawn = if rng.percent(WITH_CENTRES) { c } else { 0 };
+    let mut large = crowded(rng, h, c, margin, s, motions, drawn);
+    large.centres = if drawn > 0 { centres(rng, c) } else { vec![] };
     if rng.percent(60) {
         fill_up(rng, &mut large);
     }
     large
 }
 
-/// As many ticks, cells, states and motions as a site can have, and as many bytes as such a file can.
-pub fn largest(rng: &mut Rng, margin: usize) -> Site {
-    let mut site = crowded(rng, MAX_H, MAX_CELLS, margin, MAX_STATES, MAX_MOTIONS);
-    fill_up(rng, &mut site);
-    assert_eq!(site.motions.len(), MAX_MOTIONS);
-    site
+/// As many ticks, cells, states and motions as a site can have, with a centre for each cell or none, and as many bytes as such a file can.
+pub fn largest(rng: &mut Rng, margin: usize, with_centres: bool) -> Site {
+    let drawn = if with_centres { MAX_CELLS } else { 0 };
+    loop {
+        let mut site = crowded(rng, MAX_H, MAX_CELLS, margin, MAX_STATES, MAX_MOTIONS, drawn);
+        site.centres = centres(rng, drawn);
+        fill_up(rng, &mut site);
+        // The last motions may find too little room.
+        if site.motions.len() == MAX_MOTIONS {
+            return site;
+        }
+    }
 }
 
-/// Repeats sweeps until the file has 65,536 bytes or, for an even number of states, two less.
+/// Repeats sweeps until the file has 65,536 bytes or, where its other fields don't let it, up to three less.
 fn fill_up(rng: &mut Rng, site: &mut Site) {
     let mut len = encode(site).len();
     while len + SWEEP_LEN <= MAX_SITE {
@@ -279,7 +321,17 @@ fn fill_up(rng: &mut Rng, site: &mut Site) {
     }
 }
 
+/// A site of a size; some have centres.
 pub fn site(rng: &mut Rng, size: Size) -> Site {
+    let site = sized(rng, size);
+    match size {
+        // Their files may have no room, so that they see to it themselves.
+        Size::Many | Size::Large => site,
+        _ => perhaps_centres(rng, site),
+    }
+}
+
+fn sized(rng: &mut Rng, size: Size) -> Site {
     let margin = any_margin(rng);
     // With a wide margin tugs and closures get past each other only if they have more ticks.
     let more = rng.pick(&[0, 2, 4]) * margin;
@@ -287,7 +339,7 @@ pub fn site(rng: &mut Rng, size: Size) -> Site {
         Size::Row => return row_site(rng, margin, more),
         Size::Hall => {
             let small = rng.pick(&[Size::Row, Size::Row, Size::Small]);
-            let (small, hall) = (site(rng, small), hall_cells(rng));
+            let (small, hall) = (sized(rng, small), hall_cells(rng));
             return spread(rng, small, hall);
         }
         Size::Many => return many_site(rng, margin),
@@ -303,7 +355,7 @@ pub fn site(rng: &mut Rng, size: Size) -> Site {
         let (d, sweeps) = (any_span(rng), rng.pick(&[1, 2, 2, 2, 3, 3, 4, 5, 8, 15, 16]));
         motions.push(motion(rng, c, &states, d, sweeps));
     }
-    Site { h, c, margin, states, motions }
+    Site { h, c, margin, states, motions, centres: vec![] }
 }
 
 fn join(fields: &[(u8, Vec<u8>)]) -> Vec<u8> {
@@ -317,6 +369,23 @@ fn join(fields: &[(u8, Vec<u8>)]) -> Vec<u8> {
 /// A file of the site with faults of the given numbers, 1 to 6, so that at most the least of them is its refusal.
 /// Some faults hide each other, so the file may be refused with another number, or accepted.
 pub fn damaged(rng: &mut Rng, site: &Site, faults: &[u8]) -> Vec<u8> {
+    damaged_by(rng, site, faults, damage_layout)
+}
+
+/// As `damaged`, but number 4 by the centres. A site without centres gets some.
+pub fn damaged_centres(rng: &mut Rng, site: &Site, faults: &[u8]) -> Vec<u8> {
+    if !site.centres.is_empty() {
+        return damaged_by(rng, site, faults, damage_centres);
+    }
+    let drawn = Site { centres: centres(rng, site.c), ..site.clone() };
+    damaged_by(rng, &drawn, faults, damage_centres)
+}
+
+/// A file's fields, each a tag and a value.
+type Fields = Vec<(u8, Vec<u8>)>;
+
+/// `layout` does what number 4 stands for.
+fn damaged_by(rng: &mut Rng, site: &Site, faults: &[u8], layout: fn(&mut Rng, &Site, &mut Fields)) -> Vec<u8> {
     let mut fields = encode_fields(site);
     let (s, c) = (site.states.len(), site.c);
     let has_motions = !site.motions.is_empty();
@@ -330,7 +399,7 @@ pub fn damaged(rng: &mut Rng, site: &Site, faults: &[u8]) -> Vec<u8> {
         damage_cell(rng, c, &mut fields[i].1[..2]);
     }
     if faults.contains(&4) {
-        damage_layout(rng, s, &mut fields);
+        layout(rng, site, &mut fields);
     }
     if faults.contains(&3) {
         damage_head(rng, &mut fields);
@@ -404,7 +473,7 @@ fn old_sweeps(motion: &mut Vec<u8>) {
     motion.extend(sweeps);
 }
 
-fn damage_head(rng: &mut Rng, fields: &mut Vec<(u8, Vec<u8>)>) {
+fn damage_head(rng: &mut Rng, fields: &mut Fields) {
     let head = &mut fields[0].1;
     match rng.below(18) {
         0..=2 => head[..2].copy_from_slice(&out_of_range(rng, MAX_H)),
@@ -423,9 +492,9 @@ fn damage_head(rng: &mut Rng, fields: &mut Vec<(u8, Vec<u8>)>) {
     }
 }
 
-fn damage_layout(rng: &mut Rng, s: usize, fields: &mut Vec<(u8, Vec<u8>)>) {
+fn damage_layout(rng: &mut Rng, site: &Site, fields: &mut Fields) {
+    let (s, motions) = (site.states.len(), site.motions.len());
     let state = 1 + rng.below(s);
-    let motions = fields.len() - 1 - s;
     let motion = if motions > 0 { 1 + s + rng.below(motions) } else { state };
     match rng.below(18) {
         0 => fields[state].0 = rng.pick(&[0, 1, 3, 17]),
@@ -475,6 +544,59 @@ fn damage_layout(rng: &mut Rng, s: usize, fields: &mut Vec<(u8, Vec<u8>)>) {
         }
         15 | 16 if motions > 0 => old_sweeps(&mut fields[motion].1),
         _ => fields[motion].1.truncate(4),
+    }
+}
+
+/// Wrong numbers, lengths, tags and places of centres; sometimes all is right with them, and in a hall of few cells a wrong number may be the right one.
+fn damage_centres(rng: &mut Rng, site: &Site, fields: &mut Fields) {
+    let (s, m, c) = (site.states.len(), site.motions.len(), site.c);
+    let first = 1 + s + m;
+    let centre = first + rng.below(c);
+    let moved = |fields: &mut Fields, from: usize, to: usize| {
+        let field = fields.remove(from);
+        fields.insert(to, field);
+    };
+    // As many as the low byte of C says.
+    if c > 255 && rng.percent(20) {
+        fields.truncate(first + c % 256);
+        return;
+    }
+    match rng.below(21) {
+        0 | 1 => {
+            fields.remove(centre);
+        }
+        2 | 3 => {
+            let copy = fields[centre].clone();
+            fields.push(copy);
+        }
+        4 => fields.truncate(first + 1),
+        5 => fields.truncate(first + rng.below(c)),
+        6 => {
+            let copies = fields[first..].to_vec();
+            fields.extend(copies);
+        }
+        // As many as there are states.
+        7 => {
+            let copy = fields[centre].clone();
+            fields.resize(first + s, copy);
+        }
+        8..=10 => fields[centre].1.resize(rng.pick(&[0, 3, 3, 5, 5, 8, 256 + CENTRE_LEN]), 0),
+        11 | 12 => fields[centre].0 = rng.pick(&[5, 5, 5, 0, 1, 2, 3, 36, 132]),
+        // One of them among the motions, between states and motions, among the states or before these; all of them before the motions.
+        13 => moved(fields, centre, 1 + s + rng.below(m + 1)),
+        14 => moved(fields, centre, 1 + s),
+        15 => moved(fields, centre, 1 + rng.below(s + 1)),
+        16 => fields[1 + s..].rotate_left(m),
+        // A motion or a state behind them, or the head again.
+        17 | 18 if m > 0 => {
+            let last = fields.len() - 1;
+            moved(fields, 1 + s + rng.below(m), rng.pick(&[last, last, centre]));
+        }
+        19 => {
+            let copy = fields[rng.pick(&[0, s])].clone();
+            fields.push(copy);
+        }
+        _ => {}
     }
 }
 
@@ -656,15 +778,19 @@ pub enum Call {
     Post { light: Vec<u8> },
     Close { holder: u8, cell: u16, first: u16, last: u16 },
     Withdraw { holder: u8 },
+    Draw { light: Vec<u8>, step: u16, frame: u8 },
 }
 
-pub const CALLS: [&str; 7] = ["open", "interval", "route", "audit", "post", "close", "withdraw"];
+/// The calls on a site.
+pub const CALLS: [&str; 8] = ["open", "interval", "route", "audit", "post", "close", "withdraw", "draw"];
 
 /// Every number that a call can return, as the pair of the call's place in `CALLS` and the number, in the order in which they are asked.
 pub fn possible() -> Vec<(usize, u8)> {
     let own: [&[u8]; 7] =
         [&[], &[10, 14], &[9, 10, 11, 12, 14, 18], &[8, 9, 10, 11, 12, 15, 16, 17], &[8, 9, 10, 11, 12, 15, 16, 17], &[9, 10, 12, 15, 17], &[9, 13, 15]];
-    (0..7).flat_map(|kind| (0..=7).chain(own[kind].iter().copied()).map(move |number| (kind, number))).collect()
+    let all = (0..7).flat_map(|kind| (0..=7).chain(own[kind].iter().copied()).map(move |number| (kind, number)));
+    // Draw has no board.
+    all.chain((0..=6).chain([8, 10, 20]).map(|number| (7, number))).collect()
 }
 
 impl Call {
@@ -678,6 +804,7 @@ impl Call {
             Call::Post { .. } => 4,
             Call::Close { .. } => 5,
             Call::Withdraw { .. } => 6,
+            Call::Draw { .. } => 7,
         }
     }
 }
@@ -1015,6 +1142,55 @@ impl Caller<'_> {
         Call::Interval { cell: any_cell(rng, self.site, bad), out: length(rng, self.site.h + 2, bad) }
     }
 
+    /// A light in layout whose motions are any of the site's, which need not join; often with a tug, a goal or an arrival that an audit refuses.
+    fn loose(&self, rng: &mut Rng, board: &[u8]) -> Light {
+        let (s, m) = (self.site.states.len(), self.site.motions.len());
+        let mut steps: Vec<Step> = Vec::new();
+        for _ in 0..rng.pick(&[1, 2, 3, 5, 9, 300]) {
+            let may_wait = !matches!(steps.last(), Some(Step::Wait(_)));
+            if may_wait && (m == 0 || rng.percent(35)) {
+                steps.push(Step::Wait(rng.pick(&[1, 2, 255, 256, 65_535])));
+            } else if m > 0 {
+                steps.push(Step::Move(rng.below(m) as u16));
+            }
+        }
+        let walk = self.walk(rng, board, 0);
+        let tug = rng.pick(&[walk.tug, walk.tug, 0, 199, 200, 255]);
+        let (start, goal) = (rng.below(s) as u16, rng.below(s) as u16);
+        let (tick, arrival) = (rng.below(self.site.h + 1) as u16, rng.below(self.site.h + 1) as u16);
+        Light { edition: rng.draw() as u32, tug, start, tick, goal, arrival, steps, ..walk }
+    }
+
+    /// A step number: mostly that of a step, else just past the last or far past it, or right in its low byte only.
+    fn step(rng: &mut Rng, steps: usize) -> u16 {
+        let good = rng.below(steps.max(1));
+        let n = match rng.below(12) {
+            0 => steps,
+            1 => rng.pick(&[steps + 1, 65_535, good + 256, good + 65_280, good * 256]),
+            2 => 0,
+            3 => steps.saturating_sub(1),
+            _ => good,
+        };
+        n.min(65_535) as u16
+    }
+
+    /// A frame: mostly one that there is.
+    fn frame(rng: &mut Rng, bad: usize) -> u8 {
+        if rng.percent(4 + bad) {
+            return rng.pick(&[17, 17, 18, 32, 128, 255, 241]);
+        }
+        let any = rng.below(LAST_FRAME as usize + 1) as u8;
+        rng.pick(&[any, any, any, any, any, any, 0, LAST_FRAME])
+    }
+
+    /// A draw. Lights are those that others are posted with, or their motions don't join.
+    pub fn draw(&self, rng: &mut Rng, board: &[u8]) -> Call {
+        let bad = badness(rng);
+        let light = if rng.percent(40) { self.loose(rng, board).encode() } else { self.light(rng, board, bad) };
+        let steps = Light::read(&light).map_or(3, |light| light.steps.len());
+        Call::Draw { light, step: Self::step(rng, steps), frame: Self::frame(rng, bad) }
+    }
+
     /// A call of a list: those of 'Lists of calls' of docs/FORMATS.md, and intervals, which change nothing.
     pub fn listed(&self, rng: &mut Rng, board: &[u8]) -> Call {
         let bad = badness(rng);
@@ -1028,7 +1204,7 @@ impl Caller<'_> {
         }
     }
 
-    /// Any call.
+    /// Any call but a draw, which needs no board.
     pub fn any(&self, rng: &mut Rng, board: &[u8]) -> Call {
         let bad = badness(rng);
         match rng.below(18) {

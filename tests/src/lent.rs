@@ -31,6 +31,8 @@ pub struct Lent<B, N, W> {
     /// The output area of an interval call.
     pub numbers: N,
     pub words: W,
+    /// The floats that a draw gives, as bits; 0 before it.
+    pub drawn: [u32; 3],
 }
 
 /// Areas without a place of their own.
@@ -43,7 +45,7 @@ impl Values {
         match call {
             Call::Interval { out, .. } => numbers = *out,
             Call::Route { out, work, .. } => (bytes, words) = (*out, *work),
-            Call::Audit { light: given } | Call::Post { light: given } => light = given,
+            Call::Audit { light: given } | Call::Post { light: given } | Call::Draw { light: given, .. } => light = given,
             Call::Open | Call::Close { .. } | Call::Withdraw { .. } => {}
         }
         Values {
@@ -53,6 +55,7 @@ impl Values {
             bytes: rng.bytes(bytes),
             numbers: (0..numbers).map(|_| rng.draw() as u16).collect(),
             words: (0..words).map(|_| rng.draw() as u32).collect(),
+            drawn: [0; 3],
         }
     }
 }
@@ -67,6 +70,7 @@ impl<B: Area<u8>, N: Area<u16>, W: Area<u32>> Lent<B, N, W> {
             ("output bytes", self.bytes.all() == wanted.bytes),
             ("interval numbers", self.numbers.all() == wanted.numbers),
             ("working words", self.words.all() == wanted.words),
+            ("floats of a draw", self.drawn == wanted.drawn),
         ];
         same.iter().find(|area| !area.1).map(|area| area.0)
     }
@@ -82,8 +86,8 @@ fn trip(site: &Site, file: &[u8]) -> (u16, u16) {
     several.expect("no trip has three steps")
 }
 
-/// Each call accepted once, from a board that holds anything, and a route that is refused with 18. `make` makes a call on a site file and a board, and
-/// gives the answer and what is left. Each call gets the board that the one before left.
+/// Each call accepted once, from a board that holds anything, and a route that is refused with 18; a draw is accepted on a site with centres alone. `make`
+/// makes a call on a site file and a board, and gives the answer and what is left. Each call gets the board that the one before left.
 pub fn shift(rng: &mut Rng, site: &Site, make: impl Fn(&mut Rng, &[u8], &[u8], &Call) -> (Answer, Values)) {
     let (file, h) = (encode(site), site.h as u16);
     let (start, goal) = trip(site, &file);
@@ -99,7 +103,12 @@ pub fn shift(rng: &mut Rng, site: &Site, make: impl Fn(&mut Rng, &[u8], &[u8], &
     step(Call::Open, 0);
     let light = step(Call::Route { tug: 7, start, tick: 0, goal, dwell: 2, out, work }, 0);
     step(Call::Audit { light: light.clone() }, 0);
-    step(Call::Post { light }, 0);
+    step(Call::Post { light: light.clone() }, 0);
+    let number = if site.centres.is_empty() { 20 } else { 0 };
+    for (k, frame) in [(0, 0), (1, 5), (2, 16), (65_535, 7)] {
+        step(Call::Draw { light: light.clone(), step: k, frame }, number);
+    }
+    step(Call::Draw { light, step: 0, frame: 17 }, 20);
     step(Call::Close { holder: 200, cell, first: h, last: h }, 0);
     step(Call::Interval { cell, out: site.h + 2 }, 0);
     step(Call::Route { tug: 8, start, tick: h, goal, dwell: 0, out, work }, 18);
@@ -124,6 +133,11 @@ macro_rules! run {
             Call::Post { .. } => $program::post(lent.site.all(), lent.board.all_mut(), lent.light.all()),
             Call::Close { holder, cell, first, last } => $program::close(lent.site.all(), lent.board.all_mut(), holder, cell, first, last),
             Call::Withdraw { holder } => $program::withdraw(lent.site.all(), lent.board.all_mut(), holder),
+            Call::Draw { step, frame, .. } => {
+                let drawn = $program::draw(lent.site.all(), lent.light.all(), step, frame);
+                lent.drawn = drawn.bits();
+                drawn.answer()
+            }
         }
     }};
 }

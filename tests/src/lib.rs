@@ -1,11 +1,11 @@
-//! Tests of the release desk: its eight exported calls against independent programs in Rust.
+//! Tests of the release desk: its nine exported calls against independent programs in Rust.
 //!
 //! - `desk`: the calls by the package in bindings/rust.
-//! - `plain`: an independent program for the seven calls on a site, with a fast timestep search.
+//! - `plain`: an independent program for the eight calls on a site, with a fast timestep search.
 //! - `pull`: a simple program for the route call, with a slow timestep search.
-//! - `travel`: an independent program for the eighth call, the travel times.
+//! - `travel`: an independent program for the ninth call, the travel times.
 //! - `literal`: the rules of docs/FORMATS.md, written as they read and slow.
-//! - `literal_desk`: the seven calls on a site, on `literal`, over a board of any bytes.
+//! - `literal_desk`: the eight calls on a site, on `literal`, over a board of any bytes.
 //! - `plain_board`: the plain board of docs/FORMATS.md, on `literal`.
 //! - `lent`: what is lent to a call, and the call made with any of these programs.
 //! - `guarded`: areas between pages that nothing may touch.

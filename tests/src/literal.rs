@@ -23,6 +23,13 @@ pub struct Motion {
     pub sweeps: Vec<Sweep>,
 }
 
+/// Where a cell's centre lies, in millimetres.
+#[derive(Clone, Copy, PartialEq, Eq, Debug)]
+pub struct Centre {
+    pub x: u16,
+    pub y: u16,
+}
+
 #[derive(Clone, PartialEq, Eq, Debug)]
 pub struct Site {
     pub h: usize,
@@ -31,6 +38,8 @@ pub struct Site {
     pub margin: usize,
     pub states: Vec<State>,
     pub motions: Vec<Motion>,
+    /// One for each cell, or none.
+    pub centres: Vec<Centre>,
 }
 
 #[derive(Clone, Copy, PartialEq, Eq, Debug)]
@@ -51,6 +60,18 @@ pub struct Light {
     pub steps: Vec<Step>,
 }
 
+/// A place, in sixteenths of a millimetre.
+pub type Place = (u32, u32);
+
+/// What is drawn of a light at a frame of a step.
+#[derive(Clone, Copy, PartialEq, Eq, Debug)]
+pub enum Picture {
+    OffFloor,
+    Standing(Place),
+    /// With its share of the motion, in sixteenths.
+    Rolling(Place, u32),
+}
+
 // The limits of a site file: bytes, ticks, cells, states, motions, the sweeps of a motion, and the margin in ticks.
 pub const MAX_SITE: usize = 65_536;
 pub const MAX_H: usize = 1_000;
@@ -64,14 +85,18 @@ pub const MAX_MARGIN: usize = 20;
 pub const MARGIN_AT: usize = 2 + HEAD_LEN;
 
 // The lengths of its values: H, C and S with 2 bytes each and the margin; a cell with 2 bytes and the speed; two states with 2 bytes each and the span,
-// and behind these the sweeps, each a cell with 2 bytes and its two ends.
+// and behind these the sweeps, each a cell with 2 bytes and its two ends; x and y with 2 bytes each.
 pub const HEAD_LEN: usize = 7;
 pub const STATE_LEN: usize = 3;
 pub const MOTION_LEN: usize = 5;
 pub const SWEEP_LEN: usize = 4;
+pub const CENTRE_LEN: usize = 4;
 
 /// The longest time at the goal that a route or a light may name, in ticks.
 pub const MAX_DWELL: u16 = 1_000;
+
+/// The last frame of a step, at which a motion is all made.
+pub const LAST_FRAME: u8 = 16;
 
 /// Unsigned, high byte first.
 pub fn number(bytes: &[u8]) -> usize {
@@ -122,6 +147,13 @@ impl Sweep {
     }
 }
 
+impl Centre {
+    pub fn encode(&self) -> [u8; CENTRE_LEN] {
+        let ([x, low_x], [y, low_y]) = (self.x.to_be_bytes(), self.y.to_be_bytes());
+        [x, low_x, y, low_y]
+    }
+}
+
 impl Motion {
     fn uses(&self, cell: u16, offset: u8) -> bool {
         self.sweeps.iter().any(|w| w.cell == cell && w.a <= offset && offset <= w.b)
@@ -156,13 +188,17 @@ impl Site {
             return Err(3);
         }
         let later = &all[1..];
-        if later.len() < s || later.len() > s + MAX_MOTIONS {
+        if later.len() < s {
             return Err(4);
         }
-        let (first, second) = later.split_at(s);
+        // The states, then the fields before the first that is no motion, then all others.
+        let (first, behind) = later.split_at(s);
+        let (second, third) = behind.split_at(behind.iter().take_while(|field| field.0 == 3).count());
         let state_layout = first.iter().all(|&(tag, value)| tag == 2 && value.len() == STATE_LEN);
-        let motion_layout = second.iter().all(|&(tag, value)| tag == 3 && (1..=MAX_SWEEPS).any(|k| value.len() == MOTION_LEN + SWEEP_LEN * k));
-        if !state_layout || !motion_layout {
+        let motion_layout = second.iter().all(|&(_, value)| (1..=MAX_SWEEPS).any(|k| value.len() == MOTION_LEN + SWEEP_LEN * k));
+        let centre_layout = third.iter().all(|&(tag, value)| tag == 4 && value.len() == CENTRE_LEN);
+        let numbers = second.len() <= MAX_MOTIONS && (third.is_empty() || third.len() == c);
+        if !state_layout || !motion_layout || !centre_layout || !numbers {
             return Err(4);
         }
         let states: Vec<State> = first.iter().map(|&(_, value)| State { cell: number(&value[..2]) as u16, speed: value[2] }).collect();
@@ -181,7 +217,30 @@ impl Site {
         if motions.iter().any(|motion| !motion.well_formed(c, &states)) {
             return Err(6);
         }
-        Ok(Site { h, c, margin, states, motions })
+        let centres = third.iter().map(|&(_, value)| Centre { x: number(&value[..2]) as u16, y: number(&value[2..]) as u16 }).collect();
+        Ok(Site { h, c, margin, states, motions, centres })
+    }
+
+    /// The picture of a light at a frame of a step, on a site with centres. The light's numbers are in range, and the frame is at most 16.
+    pub fn picture(&self, light: &Light, step: usize, frame: u8) -> Picture {
+        let k = frame as i64;
+        let centre = |state: u16| self.centres[self.cell(state as usize)];
+        // Sixteen times a coordinate is 16 times the old one plus k times the difference.
+        let drawn = |old: u16, new: u16| (16 * old as i64 + k * (new as i64 - old as i64)) as u32;
+        let standing = |at: Centre| Picture::Standing((16 * at.x as u32, 16 * at.y as u32));
+        match light.steps.get(step) {
+            None => Picture::OffFloor,
+            Some(&Step::Move(n)) => {
+                let motion = &self.motions[n as usize];
+                let (old, new) = (centre(motion.from), centre(motion.to));
+                Picture::Rolling((drawn(old.x, new.x), drawn(old.y, new.y)), k as u32)
+            }
+            // A wait is not followed by a wait, so what stands before one is a motion, or nothing.
+            Some(Step::Wait(_)) => match step.checked_sub(1).map(|before| light.steps[before]) {
+                Some(Step::Move(n)) => standing(centre(self.motions[n as usize].to)),
+                _ => standing(centre(light.start)),
+            },
+        }
     }
 
     pub fn standing(&self, state: usize) -> bool {
@@ -339,6 +398,7 @@ pub fn encode_fields(site: &Site) -> Vec<(u8, Vec<u8>)> {
         value.extend(motion.sweeps.iter().flat_map(Sweep::encode));
         (3, value)
     }));
+    all.extend(site.centres.iter().map(|centre| (4, centre.encode().to_vec())));
     all
 }
 

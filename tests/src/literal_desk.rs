@@ -1,8 +1,8 @@
-//! The seven calls on a site as docs/FORMATS.md reads, on `literal`: over a board of any bytes, each call's checks in the order of their numbers.
+//! The eight calls on a site as docs/FORMATS.md reads, on `literal`: over a board of any bytes, each call's checks in the order of their numbers.
 //! `plain_board` says the same of boards that open has made and nobody else has written.
 
-use crate::desk::Answer;
-use crate::literal::{number, Light, Site, MAX_DWELL};
+use crate::desk::{Answer, Drawn, OFF_FLOOR, ROLLING, STANDING};
+use crate::literal::{number, Light, Picture, Site, LAST_FRAME, MAX_DWELL};
 
 type Pair = (usize, usize);
 
@@ -153,4 +153,35 @@ pub fn withdraw(file: &[u8], board: &mut [u8], holder: u8) -> Answer {
         let held = pairs.filter(|&pair| board[place(&site, pair)] == holder).collect();
         change(&site, board, 0, held);
     }))
+}
+
+/// So many sixteenths as a float, bit by bit: the highest bit is the float's leading one, and the lower ones begin its fraction. There are at most
+/// 20 bits, and a fraction has room for 23.
+pub fn float(sixteenths: u32) -> f32 {
+    assert!(sixteenths < 1 << 20);
+    if sixteenths == 0 {
+        return 0.0;
+    }
+    let highest = 31 - sixteenths.leading_zeros();
+    let fraction = (sixteenths ^ 1 << highest) << (23 - highest);
+    // Exponents are written with 127 more, and a sixteenth is 2 to the power of -4.
+    f32::from_bits((highest + 127 - 4) << 23 | fraction)
+}
+
+/// The picture of the calls' checks, exact and without floats.
+pub fn picture(file: &[u8], bytes: &[u8], step: u16, frame: u8) -> Result<Picture, u8> {
+    let site = Site::read(file)?;
+    let light = Light::read(bytes).ok_or(8)?;
+    refuse(10, light.too_large(&site))?;
+    refuse(20, frame > LAST_FRAME || site.centres.is_empty())?;
+    Ok(site.picture(&light, step as usize, frame))
+}
+
+pub fn draw(file: &[u8], bytes: &[u8], step: u16, frame: u8) -> Drawn {
+    match picture(file, bytes, step, frame) {
+        Err(number) => Drawn::plain(number, OFF_FLOOR),
+        Ok(Picture::OffFloor) => Drawn::plain(0, OFF_FLOOR),
+        Ok(Picture::Standing((x, y))) => Drawn { number: 0, kind: STANDING, x: float(x), y: float(y), share: 0.0 },
+        Ok(Picture::Rolling((x, y), share)) => Drawn { number: 0, kind: ROLLING, x: float(x), y: float(y), share: float(share) },
+    }
 }

@@ -1,4 +1,4 @@
-//! An independent program for the seven calls on a site, over the bytes themselves and made fast.
+//! An independent program for the eight calls on a site, over the bytes themselves and made fast.
 //!
 //! Route searches timestep by timestep: tick by tick, each pair of a state and a tick is tried at most once,
 //! and the search stops at the arrival, the first tick at which the goal is reached and the tug can unload.
@@ -8,7 +8,7 @@
 //!
 //! `pull` reads and checks a site file with what this program has for it.
 
-use crate::desk::Answer;
+use crate::desk::{Answer, Drawn, OFF_FLOOR, ROLLING, STANDING};
 use std::cell::RefCell;
 
 const MAX_SITE: usize = 65_536;
@@ -31,6 +31,9 @@ const STATE: usize = 6;
 /// A motion's tag, length, and what its value has before the sweeps.
 const MOTION: usize = 8;
 const SWEEP: usize = 4;
+/// A centre: tag, length, and a value of 4 bytes.
+const CENTRE: usize = 7;
+const LAST_FRAME: u8 = 16;
 
 fn be16(bytes: &[u8], at: usize) -> usize {
     bytes[at] as usize * 256 + bytes[at + 1] as usize
@@ -66,6 +69,8 @@ pub struct Site<'a> {
     pub s: usize,
     pub(crate) margin: usize,
     pub(crate) motions: Vec<Motion>,
+    /// The centres' fields, or no bytes.
+    centres: &'a [u8],
 }
 
 impl<'a> Site<'a> {
@@ -97,10 +102,10 @@ impl<'a> Site<'a> {
             at += STATE;
         }
         let mut motions = Vec::with_capacity(((len - at) / (MOTION + SWEEP)).min(MAX_MOTIONS));
-        while at < len {
+        while at < len && bytes[at] == 3 {
             let field = 3 + be16(bytes, at + 1);
             let fits = (MOTION + SWEEP..=MOTION + SWEEP * MAX_SWEEPS).contains(&field) && (field - MOTION) % SWEEP == 0;
-            if bytes[at] != 3 || !fits || motions.len() == MAX_MOTIONS {
+            if !fits || motions.len() == MAX_MOTIONS {
                 return Err(4);
             }
             motions.push(Motion {
@@ -112,7 +117,12 @@ impl<'a> Site<'a> {
             });
             at += field;
         }
-        let site = Site { bytes, h, c, s, margin, motions };
+        let centres = &bytes[at..];
+        let one_for_each = centres.len() == CENTRE * c && centres.chunks_exact(CENTRE).all(|field| field[..3] == [4, 0, 4]);
+        if !centres.is_empty() && !one_for_each {
+            return Err(4);
+        }
+        let site = Site { bytes, h, c, s, margin, motions, centres };
         if (0..s).any(|state| site.cell(state) >= c) {
             return Err(5);
         }
@@ -129,6 +139,12 @@ impl<'a> Site<'a> {
 
     pub(crate) fn standing(&self, state: usize) -> bool {
         self.bytes[HEAD + STATE * state + 5] == 0
+    }
+
+    /// x and y of the centre of a state's cell, on a site that has centres.
+    fn centre(&self, state: usize) -> [f32; 2] {
+        let at = CENTRE * self.cell(state) + 3;
+        [at, at + 2].map(|at| be16(self.centres, at) as f32)
     }
 
     /// Cell, a and b of each sweep.
@@ -301,19 +317,30 @@ fn layout(light: &[u8]) -> bool {
     })
 }
 
+/// Tug, start, start tick, goal, arrival and dwell of a light that keeps the layout.
+fn fields(light: &[u8]) -> (u8, usize, usize, usize, usize, usize) {
+    (light[7], be16(light, 8), be16(light, 10), be16(light, 12), be16(light, 14), be16(light, 16))
+}
+
+/// Check 10 of a light that keeps the layout.
+fn out_of_range(site: &Site, light: &[u8]) -> bool {
+    let (_, start, tick, goal, arrival, dwell) = fields(light);
+    let motions = site.motions.len();
+    let unknown = start >= site.s || goal >= site.s || steps(light).any(|(wait, n)| !wait && n >= motions);
+    unknown || tick > site.h || arrival > site.h || dwell > MAX_DWELL
+}
+
 /// Checks 1 to 17 of post and audit.
 fn check<'a>(site: &'a [u8], board: &[u8], light: &[u8]) -> Result<Site<'a>, u8> {
     let site = enter(site, board)?;
     if !layout(light) {
         return Err(8);
     }
-    let (tug, start, tick, goal, arrival, dwell) = (light[7], be16(light, 8), be16(light, 10), be16(light, 12), be16(light, 14), be16(light, 16));
+    let (tug, start, tick, goal, arrival, dwell) = fields(light);
     if tug == 0 || tug > 199 {
         return Err(9);
     }
-    let motions = site.motions.len();
-    let unknown = start >= site.s || goal >= site.s || steps(light).any(|(wait, n)| !wait && n >= motions);
-    if unknown || tick > site.h || arrival > site.h || dwell > MAX_DWELL {
+    if out_of_range(&site, light) {
         return Err(10);
     }
     if !site.standing(goal) {
@@ -356,6 +383,40 @@ fn check<'a>(site: &'a [u8], board: &[u8], light: &[u8]) -> Result<Site<'a>, u8>
 
 pub fn audit(site: &[u8], board: &[u8], light: &[u8]) -> Answer {
     answer(check(site, board, light).map(|_| ()))
+}
+
+pub fn draw(site: &[u8], light: &[u8], step: u16, frame: u8) -> Drawn {
+    let refuse = |number| Drawn::plain(number, OFF_FLOOR);
+    let site = match Site::read(site) {
+        Ok(site) => site,
+        Err(number) => return refuse(number),
+    };
+    if !layout(light) {
+        return refuse(8);
+    }
+    if out_of_range(&site, light) {
+        return refuse(10);
+    }
+    if frame > LAST_FRAME || site.centres.is_empty() {
+        return refuse(20);
+    }
+    let at = LIGHT_HEAD + LIGHT_STEP * step as usize;
+    if at >= light.len() {
+        return refuse(0);
+    }
+    let motion_at = |at: usize| &site.motions[be16(light, at + 3)];
+    if light[at] == 17 {
+        // What stands before a wait is the head, or a motion.
+        let state = if step == 0 { be16(light, 8) } else { motion_at(at - LIGHT_STEP).to as usize };
+        let [x, y] = site.centre(state);
+        return Drawn { number: 0, kind: STANDING, x, y, share: 0.0 };
+    }
+    let motion = motion_at(at);
+    let (old, new) = (site.centre(motion.from as usize), site.centre(motion.to as usize));
+    // Each of these is a multiple of 1/16 and below 65,536, so no step of it is rounded.
+    let share = frame as f32 / LAST_FRAME as f32;
+    let [x, y] = [0, 1].map(|i| old[i] + share * (new[i] - old[i]));
+    Drawn { number: 0, kind: ROLLING, x, y, share }
 }
 
 pub fn post(site: &[u8], board: &mut [u8], light: &[u8]) -> Answer {

@@ -1,8 +1,9 @@
 //! A simple desk in Rust in place of the archive, only with the feature `standin`: it is there to try the tests.
 //! With a fault named in the environment variable DESK_FAULT it is wrong in one way, and the tests must notice.
 
-use crate::desk::Answer;
-use crate::literal::{fields, number, put, with_head, Light, Motion, Site, State, Step, Sweep, HEAD_LEN, MARGIN_AT, MOTION_LEN, STATE_LEN, SWEEP_LEN};
+use crate::desk::{Answer, Drawn, OFF_FLOOR, ROLLING, STANDING};
+use crate::literal::{fields, number, put, with_head, Centre, Light, Motion, Site, State, Step, Sweep};
+use crate::literal::{CENTRE_LEN, HEAD_LEN, LAST_FRAME, MARGIN_AT, MOTION_LEN, STATE_LEN, SWEEP_LEN};
 use crate::literal::{MAX_CELLS, MAX_DWELL, MAX_MARGIN, MAX_MOTIONS, MAX_STATES, MAX_SWEEPS};
 use std::borrow::Cow;
 use std::sync::OnceLock;
@@ -10,10 +11,11 @@ use std::sync::OnceLock;
 /// The faults: those of the specification ("Wrong desks" of docs/PROMISES.md), then smaller ones, then refusals of a call in the wrong order, then those of
 /// the day program with an empty script, then those of the time at the dock: the search, what is checked and held, number 10, layouts and areas, the
 /// day program; then those of where a sweep uses its cell; then those of the travel times; then those of the margin: how far it reaches, whose bytes
-/// count, who asks for it, close's rule, what is written, and the head; last those of halls above 255 cells: a cell's high byte lost, its bytes
-/// exchanged, limits, older lengths, the day program.
+/// count, who asks for it, close's rule, what is written, and the head; then those of halls above 255 cells: a cell's high byte lost, its bytes
+/// exchanged, limits, older lengths, the day program; last those of pictures: the centres in a site file, what draw refuses and in which order, which
+/// step and which cells it takes, the kind of picture, and its floats.
 #[rustfmt::skip]
-pub const FAULTS: [&str; 172] = [
+pub const FAULTS: [&str; 217] = [
     "earliest", "endpoints", "rolling", "swap", "no-plan", "empty-light", "first-step", "no-mark", "light-edition", "interval-end",
     "unmerged", "highest", "motion-first", "edition", "work-kept", "work-long", "tail", "refused-write", "low-byte", "unknown-free",
     "withdraw-edition", "interval-tail", "board-longer", "light-trailing", "stands-edition", "arrival",
@@ -44,6 +46,14 @@ pub const FAULTS: [&str; 172] = [
     "hall-2000-motions", "hall-3999-motions", "hall-4001-motions",
     "hall-old-head", "hall-older-head", "hall-old-state", "hall-old-sweep", "hall-old-file",
     "day-low-close", "day-swapped-close", "day-old-close", "day-wide-area",
+    "centres-refused", "centres-needed", "centres-one-less", "centres-one-more", "centres-any", "centres-low-byte", "centres-of-states",
+    "centres-3-bytes", "centres-5-bytes", "centres-tag-5", "centres-any-order", "centres-as-motions", "centres-late",
+    "draw-no-centres", "draw-17", "draw-15", "draw-10-20", "draw-20-8", "draw-frame-first", "draw-past-first", "draw-past-refused",
+    "draw-9", "draw-11", "draw-chain",
+    "draw-low-step", "draw-from-1", "draw-dwell", "draw-wait-start", "draw-wait-next", "draw-wait-from", "draw-exchanged", "draw-walked",
+    "draw-low-cell", "draw-state-centres",
+    "draw-end-stands", "draw-within-stands", "draw-rolling-wait",
+    "draw-y-from-x", "draw-swapped-bytes", "draw-eighths", "draw-unsigned", "draw-rounded", "draw-minus-zero", "draw-share-of-wait", "draw-beside-20",
 ];
 
 pub fn fault(name: &str) -> bool {
@@ -71,12 +81,24 @@ fn first(call: &str, checks: &[(u8, &dyn Fn() -> bool)]) -> Result<(), u8> {
 }
 
 fn enter(file: &[u8], board: &[u8]) -> Result<Site, u8> {
+    let site = read(file, Some(board))?;
+    let fits = board.len() == site.board_len() || (fault("board-longer") && board.len() > site.board_len());
+    if fits {
+        Ok(site)
+    } else {
+        Err(7)
+    }
+}
+
+/// Checks 1 to 6, for a call with a board or without.
+fn read(file: &[u8], board: Option<&[u8]>) -> Result<Site, u8> {
     let file = &misread(file);
+    let other_board = |len: usize| board.is_some_and(|board| board.len() != len);
     let mut site = match Site::read(file) {
         Err(1) if fault("site-1-2") && fields(file).is_none() => Err(2),
         Err(2) if fault("site-2-3") && !file.is_empty() && file[0] != 1 => Err(3),
         Err(5) if fault("site-5-6") => Err(Site::read(&cells_within(file)).err().unwrap_or(5)),
-        Err(6) if fault("site-6-7") && board.len() != 4 + number(&file[5..7]) * (number(&file[3..5]) + 1) => Err(7),
+        Err(6) if fault("site-6-7") && other_board(4 + number(&file[5..7]) * (number(&file[3..5]) + 1)) => Err(7),
         Err(6) if fault("swap") => unhanded(file),
         Err(6) if fault("sweep-one-start") => widened(file, |sweep, _, _| sweep.a = 0),
         Err(6) if fault("sweep-one-end") => widened(file, |sweep, d, _| sweep.b = d),
@@ -88,8 +110,11 @@ fn enter(file: &[u8], board: &[u8]) -> Result<Site, u8> {
         }),
         Err(6) if fault("hall-low-rules") => by_low_bytes(file),
         Err(3) => with_wrong_head(file).or_else(|number| with_wrong_limits(file, number)),
-        Err(4) => with_wrong_limits(file, 4),
+        Err(4) => with_wrong_limits(file, 4).or_else(|_| with_wrong_centres(file)),
         Ok(site) if site.margin == MAX_MARGIN && fault("margin-20") => Err(3),
+        Ok(site) if fault("centres-refused") && !site.centres.is_empty() => Err(4),
+        Ok(site) if fault("centres-needed") && site.centres.is_empty() => Err(4),
+        Ok(site) if fault("centres-as-motions") && site.motions.len() + site.centres.len() > MAX_MOTIONS => Err(4),
         Ok(site) => within_lower_limits(site),
         other => other,
     }?;
@@ -102,12 +127,46 @@ fn enter(file: &[u8], board: &[u8]) -> Result<Site, u8> {
         _ if fault("margin-from-states") => site.states.len().min(MAX_MARGIN),
         m => m,
     };
-    let fits = board.len() == site.board_len() || (fault("board-longer") && board.len() > site.board_len());
-    if fits {
-        Ok(site)
-    } else {
-        Err(7)
+    Ok(site)
+}
+
+/// A file that is refused with 4, as desks have it that are wrong about centres.
+fn with_wrong_centres(file: &[u8]) -> Result<Site, u8> {
+    let (c, s) = (number(&file[5..7]), number(&file[7..9]));
+    let mut all: Vec<(u8, Vec<u8>)> = fields(file).unwrap().into_iter().map(|(tag, value)| (tag, value.to_vec())).collect();
+    for (tag, value) in &mut all {
+        if *tag == 5 && fault("centres-tag-5") {
+            *tag = 4;
+        }
+        let cut = [("centres-3-bytes", CENTRE_LEN - 1), ("centres-5-bytes", CENTRE_LEN + 1)].iter().any(|cut| fault(cut.0) && value.len() == cut.1);
+        if *tag == 4 && cut {
+            value.resize(CENTRE_LEN, 0);
+        }
     }
+    if fault("centres-any-order") && all.len() > s {
+        all[1 + s..].sort_by_key(|field| field.0);
+    }
+    if fault("centres-late") {
+        all.retain(|field| field.0 != 4);
+        return Site::read(&joined(&all)).and(Err(4));
+    }
+    let count = all.iter().rev().take_while(|field| field.0 == 4).count();
+    let taken = fault("centres-any")
+        || (fault("centres-one-less") && count + 1 == c)
+        || (fault("centres-one-more") && count == c + 1)
+        || (fault("centres-low-byte") && count == c % 256)
+        || (fault("centres-of-states") && count == s);
+    if taken && count > 0 {
+        let last = all[all.len() - 1].clone();
+        all.resize(all.len() - count + c, last);
+    }
+    Site::read(&joined(&all)).or(Err(4))
+}
+
+fn joined(all: &[(u8, Vec<u8>)]) -> Vec<u8> {
+    let mut bytes = Vec::new();
+    all.iter().for_each(|(tag, value)| put(&mut bytes, *tag, value));
+    bytes
 }
 
 /// Changes the values of a file's fields, if their lengths are right.
@@ -598,20 +657,7 @@ fn check(file: &[u8], board: &[u8], bytes: &[u8]) -> Result<(Site, Light, Vec<(u
     if fault("margin-off-light") {
         site.margin = 0;
     }
-    let mut read = Light::read(bytes);
-    if fault("light-trailing") && read.is_none() {
-        read = (1..5).filter(|n| *n < bytes.len()).find_map(|n| Light::read(&bytes[..bytes.len() - n]));
-    }
-    if fault("dwell-old-head") && bytes.starts_with(&[16, 0, 13]) {
-        read = with_head(bytes, 15).and_then(|bytes| Light::read(&bytes));
-    }
-    if fault("dwell-old-limit") && bytes.len() > 5_016 {
-        read = None;
-    }
-    if fault("dwell-wide-limit") && bytes.len() == 5_023 {
-        read = Light::read(&bytes[..5_018]);
-    }
-    let light = lit(read.ok_or(8)?);
+    let light = read_light(bytes).ok_or(8)?;
     let large = dwell_large(&site, light.goal, light.dwell) && !fault("dwell-unlimited-light");
     let unknown = Light { dwell: 0, ..light.clone() }.too_large(&site);
     let past = fault("dwell-horizon-10") && light.arrival as usize + light.dwell as usize > site.h;
@@ -628,6 +674,24 @@ fn check(file: &[u8], board: &[u8], bytes: &[u8]) -> Result<(Site, Light, Vec<(u
     first("light", &checks)?;
     let pairs = pairs.unwrap();
     Ok((site, light, pairs))
+}
+
+/// The light of some bytes.
+fn read_light(bytes: &[u8]) -> Option<Light> {
+    let mut read = Light::read(bytes);
+    if fault("light-trailing") && read.is_none() {
+        read = (1..5).filter(|n| *n < bytes.len()).find_map(|n| Light::read(&bytes[..bytes.len() - n]));
+    }
+    if fault("dwell-old-head") && bytes.starts_with(&[16, 0, 13]) {
+        read = with_head(bytes, 15).and_then(|bytes| Light::read(&bytes));
+    }
+    if fault("dwell-old-limit") && bytes.len() > 5_016 {
+        read = None;
+    }
+    if fault("dwell-wide-limit") && bytes.len() == 5_023 {
+        read = Light::read(&bytes[..5_018]);
+    }
+    read.map(lit)
 }
 
 /// The pairs of a valid plan, the start's first.
@@ -778,4 +842,135 @@ pub fn travel(distance: u32) -> Answer {
         _ => {}
     }
     Answer { number: 0, value: ticks, arrival: if fault("travel-in-arrival") { ticks } else { 0 } }
+}
+
+pub fn draw(file: &[u8], bytes: &[u8], step: u16, frame: u8) -> Drawn {
+    pictured(file, bytes, step, frame).unwrap_or_else(|number| {
+        let share = if number == 20 && fault("draw-beside-20") { frame as f32 / 16.0 } else { 0.0 };
+        Drawn { share, ..Drawn::plain(number, OFF_FLOOR) }
+    })
+}
+
+fn pictured(file: &[u8], bytes: &[u8], step: u16, frame: u8) -> Result<Drawn, u8> {
+    let no_frame = frame > LAST_FRAME + fault("draw-17") as u8 - fault("draw-15") as u8;
+    if no_frame && fault("draw-frame-first") {
+        return Err(20);
+    }
+    let site = read(file, None)?;
+    let none = no_frame || (site.centres.is_empty() && !fault("draw-no-centres"));
+    if none && fault("draw-20-8") {
+        return Err(20);
+    }
+    let light = read_light(bytes).ok_or(8)?;
+    let step = match step {
+        step if fault("draw-low-step") => step as usize & 255,
+        step if fault("draw-from-1") => (step as usize).wrapping_sub(1),
+        step => step as usize,
+    };
+    let past = step >= light.steps.len();
+    let checks: [(u8, &dyn Fn() -> bool); 2] =
+        [(10, &|| light.too_large(&site) || (past && fault("draw-past-refused"))), (20, &|| none && !(past && fault("draw-past-first")))];
+    first("draw", &checks)?;
+    if fault("draw-9") && !(1..=199).contains(&light.tug) {
+        return Err(9);
+    }
+    if fault("draw-11") && rolling(&site, light.goal) {
+        return Err(11);
+    }
+    if fault("draw-chain") && !chains(&site, &light) {
+        return Err(17);
+    }
+    if site.centres.is_empty() {
+        return Ok(Drawn::plain(0, OFF_FLOOR));
+    }
+    Ok(match light.steps.get(step) {
+        None if step == light.steps.len() && fault("draw-dwell") => stood(&site, light.goal, frame),
+        None => Drawn::plain(0, OFF_FLOOR),
+        Some(Step::Wait(_)) => stood(&site, waits_in(&site, &light, step), frame),
+        Some(&Step::Move(k)) => {
+            let motion = &site.motions[k as usize];
+            let (mut from, mut to) = (motion.from, motion.to);
+            if fault("draw-exchanged") {
+                (from, to) = (to, from);
+            }
+            if fault("draw-walked") {
+                from = moved_to(&site, &light, step);
+            }
+            let (old, new) = (centre(&site, from), centre(&site, to));
+            let within = fault("draw-within-stands") && site.cell(from as usize) == site.cell(to as usize);
+            if within || (frame == LAST_FRAME && fault("draw-end-stands")) {
+                stood(&site, to, frame)
+            } else {
+                let share = frame as f32 / if fault("draw-eighths") { 8.0 } else { 16.0 };
+                Drawn { number: 0, kind: ROLLING, x: between(old.x, new.x, share), y: between(old.y, new.y, share), share }
+            }
+        }
+    })
+}
+
+/// Whether each motion begins in the state in which the one before ended.
+fn chains(site: &Site, light: &Light) -> bool {
+    let mut state = light.start;
+    light.steps.iter().all(|step| match *step {
+        Step::Wait(_) => true,
+        Step::Move(k) => {
+            let joins = site.motions[k as usize].from == state;
+            state = site.motions[k as usize].to;
+            joins
+        }
+    })
+}
+
+/// Where the last motion before a step leads, or the start.
+fn moved_to(site: &Site, light: &Light, step: usize) -> u16 {
+    let mut motions = light.steps[..step].iter().rev().filter_map(|step| if let Step::Move(k) = step { Some(*k) } else { None });
+    motions.next().map_or(light.start, |k| site.motions[k as usize].to)
+}
+
+/// The state in which a wait is drawn.
+fn waits_in(site: &Site, light: &Light, step: usize) -> u16 {
+    let motion = |step: Option<&Step>| match step {
+        Some(&Step::Move(k)) => Some(&site.motions[k as usize]),
+        _ => None,
+    };
+    let (before, next) = (motion(light.steps[..step].last()), motion(light.steps.get(step + 1)));
+    match (before, next) {
+        _ if fault("draw-wait-start") => light.start,
+        (_, Some(next)) if fault("draw-wait-next") => next.from,
+        (Some(before), _) if fault("draw-wait-from") => before.from,
+        (Some(before), _) => before.to,
+        (None, _) => light.start,
+    }
+}
+
+/// The centre of a state's cell.
+fn centre(site: &Site, state: u16) -> Centre {
+    let cell = match site.cell(state as usize) {
+        cell if fault("draw-low-cell") => cell & 255,
+        _ if fault("draw-state-centres") => state as usize % site.c,
+        cell => cell,
+    };
+    match site.centres[cell] {
+        Centre { x, .. } if fault("draw-y-from-x") => Centre { x, y: x },
+        Centre { x, y } if fault("draw-swapped-bytes") => Centre { x: x.swap_bytes(), y: y.swap_bytes() },
+        centre => centre,
+    }
+}
+
+/// The picture of a tug that stands in a state's cell.
+fn stood(site: &Site, state: u16, frame: u8) -> Drawn {
+    let at = centre(site, state);
+    let kind = if rolling(site, state) && fault("draw-rolling-wait") { ROLLING } else { STANDING };
+    let share = if fault("draw-share-of-wait") { frame as f32 / 16.0 } else { 0.0 };
+    Drawn { number: 0, kind, x: between(at.x, at.x, 0.0), y: between(at.y, at.y, 0.0), share }
+}
+
+fn between(old: u16, new: u16, share: f32) -> f32 {
+    let gain = new as f32 - old as f32;
+    let at = old as f32 + share * if fault("draw-unsigned") { gain.abs() } else { gain };
+    match at {
+        at if fault("draw-rounded") => at.round(),
+        0.0 if fault("draw-minus-zero") => -0.0,
+        at => at,
+    }
 }

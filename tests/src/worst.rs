@@ -26,7 +26,7 @@ pub const NAMES: [&str; KINDS] = ["zigzag", "zigzag, a third held", "16 sweeps o
 
 fn site(scale: Scale, speed: u8, last: State, motions: Vec<Motion>) -> Site {
     let states = (0..scale.cells).map(|cell| State { cell: cell as u16, speed }).chain([last]).collect();
-    Site { h: H, c: scale.cells, margin: 0, states, motions }
+    Site { h: H, c: scale.cells, margin: 0, states, motions, centres: vec![] }
 }
 
 /// A motion of span 1 from the state of a cell to a state in another cell.

@@ -1,13 +1,15 @@
 //! The desk against independent programs on seeded calls: number, values and every lent byte.
 //!
-//! CALLS sets the number of calls (400,000) and SEED the seed (1): `CALLS=5000000 SEED=7 cargo test --release --test agree`.
+//! CALLS sets the number of calls (400,000), to which draws and calls on files with wrong centres are added, and SEED the seed (1):
+//! `CALLS=5000000 SEED=7 cargo test --release --test agree`.
 
 use dispatch_tests::desk::{self, Answer};
 use dispatch_tests::gen::{self, Call, Caller, Rng, Size, CALLS};
 use dispatch_tests::lent::{self, Area, Values};
-use dispatch_tests::literal::{encode, with_head, Light, Site, Step, MARGIN_AT, MAX_DWELL, MAX_MARGIN};
+use dispatch_tests::literal::{encode, fields, number, put, with_head, Centre, Light, Site, Step};
+use dispatch_tests::literal::{CENTRE_LEN, LAST_FRAME, MARGIN_AT, MAX_DWELL, MAX_MARGIN};
 use dispatch_tests::plain_board::PlainBoard;
-use dispatch_tests::{plain, pull, run};
+use dispatch_tests::{literal_desk, plain, pull, run};
 use std::collections::{BTreeMap, BTreeSet};
 use std::io::Write;
 use std::ops::RangeInclusive;
@@ -59,12 +61,16 @@ fn lend(rng: &mut Rng, site: &[u8], board: &[u8], call: &Call) -> Lent {
         bytes: Fenced::new(&values.bytes, || rng.draw() as u8),
         numbers: Fenced::new(&values.numbers, || rng.draw() as u16),
         words: Fenced::new(&values.words, || rng.draw() as u32),
+        drawn: values.drawn,
     }
 }
 
 struct Tally {
     seed: u64,
     calls: usize,
+    /// Calls beyond the number that is asked for.
+    more: usize,
+    pictures: BTreeMap<Seen, usize>,
     pairs: BTreeMap<(usize, u8), usize>,
     docks: BTreeMap<Dock, usize>,
     margins: BTreeMap<(usize, Apart), usize>,
@@ -245,9 +251,193 @@ fn aparts(call: &Call, answer: &Answer, before: &Lent, left: &Lent) -> Vec<(usiz
             ]
         }
         Call::Interval { .. } => vec![(Apart::IntervalsShorter, left.numbers != intervals), (Apart::IntervalsFewer, answer.value < none.value)],
-        Call::Open | Call::Withdraw { .. } => vec![],
+        Call::Open | Call::Withdraw { .. } | Call::Draw { .. } => vec![],
     };
     seen.into_iter().filter(|apart| apart.1).map(|apart| (margin, apart.0)).collect()
+}
+
+/// What can happen with centres and pictures. Each must occur often, or the run shows too little of it.
+#[derive(Clone, Copy, PartialEq, Eq, PartialOrd, Ord, Debug)]
+enum Seen {
+    /// A call of each kind that is accepted on a site with centres.
+    OnCentres(usize),
+    /// Rolling at a frame; between two places; with a coordinate that falls, and with both at one place.
+    Frame(u8),
+    Between,
+    Falls,
+    OnePlace,
+    /// From the least coordinate to the greatest, or the other way.
+    FromEndToEnd,
+    /// Rolling or standing at a cell above 255, and at a step above 255.
+    HighCell,
+    HighStep,
+    /// Standing at the start; behind a motion; behind one at the last step.
+    WaitFirst,
+    WaitBehind,
+    WaitLast,
+    /// Off the floor at the step behind the last; at a later one; of a light without steps.
+    JustPast,
+    FarPast,
+    NoSteps,
+    /// A motion or a wait of a light whose motions don't join, which shows where it is drawn: from the motion before it, by the motion behind it.
+    MoveApart,
+    WaitApart,
+    /// A light that an audit refuses with 9 or 11, drawn.
+    TugOutOfRange,
+    GoalRolling,
+    /// 20 for the frame alone, for the centres alone, for both; and past the last step.
+    NoFrame,
+    NoCentres,
+    Neither,
+    NoPicturePast,
+    /// 8 or 10, where 20 applies too; and numbers 1 to 6 where the frame is too large.
+    LayoutFirst,
+    RangeFirst,
+    SiteFirst(u8),
+    /// Files that are refused with 4 for their centres alone: one less, one more, one for each state, and as many as C's low byte says.
+    OneLess,
+    OneMore,
+    OfStates,
+    LowByteOfC,
+    /// A single one, and twice as many.
+    Single,
+    Twice,
+    /// A centre of so many bytes, and one with tag 5.
+    Length(usize),
+    Tag5,
+    /// A centre among the motions, before them, among the states or before these; a motion behind the centres.
+    AmongMotions,
+    BeforeMotions,
+    BeforeStates,
+    MotionBehind,
+    /// 4, where 5 or 6 applies too.
+    LayoutBefore5,
+    LayoutBefore6,
+}
+
+/// What a run must show. What is wrong about a file's centres is counted for every call on it.
+fn seen_pictures() -> Vec<Seen> {
+    use Seen::*;
+    let mut all: Vec<Seen> = (0..CALLS.len()).map(OnCentres).chain((0..=LAST_FRAME).map(Frame)).collect();
+    all.extend([Between, Falls, OnePlace, FromEndToEnd, HighCell, HighStep, WaitFirst, WaitBehind, WaitLast, JustPast, FarPast, NoSteps]);
+    all.extend([MoveApart, WaitApart, TugOutOfRange, GoalRolling, NoFrame, NoCentres, Neither, NoPicturePast, LayoutFirst, RangeFirst]);
+    all.extend((1..=6).map(SiteFirst));
+    all.extend([OneLess, OneMore, OfStates, LowByteOfC, Single, Twice, Length(0), Length(3), Length(5), Tag5]);
+    all.extend([AmongMotions, BeforeMotions, BeforeStates, MotionBehind, LayoutBefore5, LayoutBefore6]);
+    all
+}
+
+/// What a draw of an accepted site shows.
+fn drawn(site: &Site, bytes: &[u8], step: usize, frame: u8, number: u8) -> Vec<(Seen, bool)> {
+    let no_picture = frame > LAST_FRAME || site.centres.is_empty();
+    let Some(light) = Light::read(bytes) else { return vec![(Seen::LayoutFirst, number == 8 && no_picture)] };
+    let past = step >= light.steps.len();
+    if number != 0 {
+        return vec![
+            (Seen::RangeFirst, number == 10 && no_picture),
+            (Seen::NoFrame, number == 20 && frame > LAST_FRAME && !site.centres.is_empty()),
+            (Seen::NoCentres, number == 20 && frame <= LAST_FRAME),
+            (Seen::Neither, number == 20 && frame > LAST_FRAME && site.centres.is_empty()),
+            (Seen::NoPicturePast, number == 20 && past),
+        ];
+    }
+    let steps = &light.steps;
+    let mut seen = vec![
+        (Seen::JustPast, step == steps.len() && !steps.is_empty()),
+        (Seen::FarPast, step > steps.len()),
+        (Seen::NoSteps, steps.is_empty()),
+        (Seen::TugOutOfRange, !past && !(1..=199).contains(&light.tug)),
+        (Seen::GoalRolling, !past && !site.standing(light.goal as usize)),
+    ];
+    let motion = |step: Option<&Step>| if let Some(&Step::Move(k)) = step { Some(&site.motions[k as usize]) } else { None };
+    let centre = |state: u16| site.centres[site.cell(state as usize)];
+    let (before, next) = (steps[..step.min(steps.len())].iter().rev().find_map(|step| motion(Some(step))), motion(steps.get(step + 1)));
+    let stood = before.map_or(light.start, |before| before.to);
+    let high = |state: u16| site.cell(state as usize) > 255;
+    match steps.get(step) {
+        None => {}
+        Some(Step::Wait(_)) => seen.extend([
+            (Seen::WaitFirst, step == 0),
+            (Seen::WaitBehind, step > 0),
+            (Seen::WaitLast, step > 0 && step + 1 == steps.len()),
+            (Seen::WaitApart, step > 0 && next.is_some_and(|next| centre(next.from) != centre(stood))),
+            (Seen::HighCell, high(stood)),
+            (Seen::HighStep, step > 255),
+        ]),
+        Some(&Step::Move(k)) => {
+            let motion = &site.motions[k as usize];
+            let (old, new) = (centre(motion.from), centre(motion.to));
+            let ends = |Centre { x, y }, x_too, y_too| x == x_too || y == y_too;
+            seen.extend([
+                (Seen::Frame(frame), true),
+                (Seen::Between, old != new && (1..LAST_FRAME).contains(&frame)),
+                (Seen::Falls, (new.x < old.x || new.y < old.y) && (1..LAST_FRAME).contains(&frame)),
+                (Seen::OnePlace, old == new),
+                (Seen::FromEndToEnd, (ends(old, 0, 0) && ends(new, 65_535, 65_535)) || (ends(old, 65_535, 65_535) && ends(new, 0, 0))),
+                (Seen::MoveApart, centre(motion.from) != centre(stood)),
+                (Seen::HighCell, high(motion.from) && high(motion.to)),
+                (Seen::HighStep, step > 255),
+            ]);
+        }
+    }
+    seen
+}
+
+/// What a file shows that is refused with 4, and is accepted without its centres, or then refused with 5 or 6.
+fn wrong_centres(file: &[u8]) -> Vec<(Seen, bool)> {
+    let all = fields(file).unwrap();
+    let (c, s) = (number(&all[0].1[2..4]), number(&all[0].1[4..6]));
+    let mut without = Vec::new();
+    all.iter().filter(|field| field.0 != 4 && field.0 != 5).for_each(|(tag, value)| put(&mut without, *tag, value));
+    let lengths = |wanted: usize| all.iter().any(|&(tag, value)| tag == 4 && value.len() == wanted);
+    // Whether some field of the one tag stands before one of the other.
+    let before = |tag: u8, other: u8| all.iter().position(|field| field.0 == tag) < all.iter().rposition(|field| field.0 == other);
+    let there = |tag: u8| all.iter().any(|field| field.0 == tag);
+    match Site::read(&without).err() {
+        None => {
+            let count = all.iter().filter(|field| field.0 == 4).count();
+            let plain = all.iter().all(|&(tag, value)| tag < 4 || (tag == 4 && value.len() == CENTRE_LEN)) && !before(4, 3) && !before(4, 2);
+            let one_kind = all.iter().all(|&(tag, value)| tag < 4 || value.len() == CENTRE_LEN);
+            let first = all.iter().rposition(|field| field.0 == 2).unwrap() + 1;
+            let among = all[first..].iter().skip_while(|field| field.0 == 3).any(|field| field.0 == 3) && all[first].0 == 3;
+            vec![
+                (Seen::OneLess, plain && count + 1 == c),
+                (Seen::OneMore, plain && count == c + 1),
+                (Seen::OfStates, plain && count == s),
+                (Seen::LowByteOfC, plain && c > 255 && count == c % 256),
+                (Seen::Single, plain && count == 1),
+                (Seen::Twice, plain && count == 2 * c),
+                (Seen::Length(0), lengths(0)),
+                (Seen::Length(3), lengths(3)),
+                (Seen::Length(5), lengths(5)),
+                (Seen::Tag5, one_kind && there(5) && !before(4, 3)),
+                (Seen::AmongMotions, one_kind && count == c && !before(4, 2) && among),
+                (Seen::BeforeMotions, one_kind && count == c && !before(4, 2) && all[first].0 == 4 && there(3)),
+                (Seen::BeforeStates, one_kind && count == c && before(4, 2)),
+                (Seen::MotionBehind, one_kind && count == c && !before(4, 2) && all.last().unwrap().0 == 3),
+            ]
+        }
+        Some(number) => vec![(Seen::LayoutBefore5, number == 5 && there(4)), (Seen::LayoutBefore6, number == 6 && there(4))],
+    }
+}
+
+/// What a call shows of centres.
+fn pictures(call: &Call, answer: &Answer, before: &Lent) -> Vec<Seen> {
+    let file = before.site.all();
+    let seen = match (Site::read(file), call) {
+        (Ok(site), Call::Draw { light, step, frame }) => {
+            let mut seen = drawn(&site, light, *step as usize, *frame, answer.number);
+            seen.push((Seen::OnCentres(call.kind()), answer.number == 0));
+            seen
+        }
+        (Ok(site), _) => vec![(Seen::OnCentres(call.kind()), answer.number == 0 && !site.centres.is_empty())],
+        (Err(number), _) => {
+            let mut seen = if number == 4 { wrong_centres(file) } else { vec![] };
+            seen.push((Seen::SiteFirst(number), matches!(call, Call::Draw { frame, .. } if *frame > LAST_FRAME)));
+            seen
+        }
+    };
+    seen.into_iter().filter(|seen| seen.1).map(|seen| seen.0).collect()
 }
 
 /// In each cell, the ticks of a tug and of any other holder differ by more than the margin. Gives those that differ by just one tick more.
@@ -275,9 +465,10 @@ impl Tally {
         let expected = run!(plain, call, &mut wanted);
         let place = || {
             format!(
-                "seed {}, call {}: {} on a site file of {} bytes, a board of {}\n{call:?}",
+                "seed {}, call {} and {} more: {} on a site file of {} bytes, a board of {}\n{call:?}",
                 self.seed,
                 self.calls,
+                self.more,
                 CALLS[call.kind()],
                 site.len(),
                 board.len()
@@ -289,6 +480,12 @@ impl Tally {
         assert!(left.bytes == wanted.bytes, "{}\nthe output bytes differ", place());
         assert!(left.numbers == wanted.numbers, "{}\nthe interval numbers differ", place());
         assert!(left.words == wanted.words, "{}\nthe working words differ", place());
+        let floats = |lent: &Lent| lent.drawn.map(f32::from_bits);
+        assert!(left.drawn == wanted.drawn, "{}\nthe desk draws {:?}, the plain program {:?}", place(), floats(&left), floats(&wanted));
+        if let Call::Draw { light, step, frame } = call {
+            let exact = literal_desk::draw(site, light, *step, *frame);
+            assert!(exact.answer() == answer && exact.bits() == left.drawn, "{}\nthe literal reading gives {exact:?}", place());
+        }
         if let Call::Route { tug, start, tick, goal, dwell, .. } = *call {
             let mut simple = before.clone();
             let (bytes, words) = (simple.bytes.all_mut(), simple.words.all_mut());
@@ -297,6 +494,9 @@ impl Tally {
         }
         self.calls += 1;
         *self.pairs.entry((call.kind(), answer.number)).or_default() += 1;
+        for seen in pictures(call, &answer, &before) {
+            *self.pictures.entry(seen).or_default() += 1;
+        }
         for dock in docks(call, &answer, &before, &left) {
             *self.docks.entry(dock).or_default() += 1;
         }
@@ -304,6 +504,14 @@ impl Tally {
             *self.margins.entry(apart).or_default() += 1;
         }
         (answer, left)
+    }
+
+    /// The same for a call beyond the number that is asked for.
+    fn compare_more(&mut self, rng: &mut Rng, site: &[u8], board: &[u8], call: &Call) -> Answer {
+        let (answer, _) = self.compare(rng, site, board, call);
+        self.calls -= 1;
+        self.more += 1;
+        answer
     }
 
     /// Calls on boards with any bytes, some of a wrong length.
@@ -324,6 +532,10 @@ impl Tally {
                 if !matches!(call, Call::Open) {
                     board = left.board.all().to_vec();
                 }
+            }
+            for _ in 0..3 {
+                let draw = caller.draw(rng, &board);
+                self.compare_more(rng, &file, &board, &draw);
             }
         }
     }
@@ -354,17 +566,39 @@ impl Tally {
                     gen::damaged(rng, &site, &faults)
                 }
             };
-            // The file as the definitions read it, beside the two programs.
-            let literal = Site::read(&file).err();
             for _ in 0..3 {
                 let call = caller.any(rng, &board);
                 let cut = if rng.percent(10) { 1 } else { 0 };
                 let (answer, _) = self.compare(rng, &file, &board[cut..], &call);
-                match literal {
-                    Some(number) => assert_eq!(answer, Answer::plain(number), "seed {}, call {}", self.seed, self.calls),
-                    None => assert!(answer.number == 0 || answer.number >= 7, "seed {}, call {}", self.seed, self.calls),
-                }
+                self.read_as(&file, answer);
             }
+            let draw = caller.draw(rng, &board);
+            let answer = self.compare_more(rng, &file, &board, &draw);
+            self.read_as(&file, answer);
+        }
+        self.any_centres(rng, &caller, &board);
+    }
+
+    /// Files with wrong centres, which may have other faults too.
+    fn any_centres(&mut self, rng: &mut Rng, caller: &Caller, board: &[u8]) {
+        for _ in 0..3 {
+            let mut faults = vec![4];
+            while rng.percent(40) {
+                faults.push(rng.pick(&[5, 5, 6, 6, 3, 2]));
+            }
+            let file = gen::damaged_centres(rng, caller.site, &faults);
+            for call in [caller.any(rng, board), caller.draw(rng, board)] {
+                let answer = self.compare_more(rng, &file, board, &call);
+                self.read_as(&file, answer);
+            }
+        }
+    }
+
+    /// The file as the literal reading has it, beside the two programs.
+    fn read_as(&self, file: &[u8], answer: Answer) {
+        match Site::read(file).err() {
+            Some(number) => assert_eq!(answer, Answer::plain(number), "seed {}, call {}", self.seed, self.calls),
+            None => assert!(answer.number == 0 || answer.number >= 7, "seed {}, call {}", self.seed, self.calls),
         }
     }
 
@@ -394,12 +628,16 @@ impl Tally {
                 Call::Post { light } => model.post(&light),
                 Call::Close { holder, cell, first, last } => model.close(holder, cell, first, last),
                 Call::Withdraw { holder } => model.withdraw(holder),
-                Call::Open | Call::Interval { .. } => answer,
+                Call::Open | Call::Interval { .. } | Call::Draw { .. } => answer,
             };
             assert_eq!(answer, wanted, "seed {}, call {}: the answer of the plain board", self.seed, self.calls);
             assert!(board == model.bytes(), "seed {}, call {}: the board differs from the plain board", self.seed, self.calls);
             for apart in kept_apart(&site, &board) {
                 *self.margins.entry((site.margin, apart)).or_default() += 1;
+            }
+            if rng.percent(25) {
+                let draw = caller.draw(rng, &board);
+                self.compare_more(rng, &file, &board, &draw);
             }
         }
     }
@@ -417,7 +655,8 @@ fn desk_and_plain_program_agree() {
     writeln!(log, "agree: seed {seed}, {calls} calls").unwrap();
     let began = Instant::now();
     let mut rng = Rng::new(seed);
-    let mut tally = Tally { seed, calls: 0, pairs: BTreeMap::new(), docks: BTreeMap::new(), margins: BTreeMap::new() };
+    let (pairs, docks, margins, pictures) = (BTreeMap::new(), BTreeMap::new(), BTreeMap::new(), BTreeMap::new());
+    let mut tally = Tally { seed, calls: 0, more: 0, pictures, pairs, docks, margins };
     let mut round = 0;
     while tally.calls < calls {
         round += 1;
@@ -444,11 +683,16 @@ fn desk_and_plain_program_agree() {
         if round % 200 == 0 {
             tally.any_board(&mut rng, Size::Many);
         }
+        if round % 20 == 0 {
+            let site = gen::site(&mut rng, Size::Hall);
+            let (file, board) = (encode(&site), gen::board(&mut rng, &site));
+            tally.any_centres(&mut rng, &Caller { site: &site, file: &file, lights: vec![] }, &board);
+        }
         if round % 1_000 == 0 {
             tally.any_file(&mut rng, Size::Many);
         }
     }
-    writeln!(log, "agree: {} calls agree in {:.1} s", tally.calls, began.elapsed().as_secs_f64()).unwrap();
+    writeln!(log, "agree: {} calls and {} more agree in {:.1} s", tally.calls, tally.more, began.elapsed().as_secs_f64()).unwrap();
     for (kind, name) in CALLS.iter().enumerate() {
         let counts: Vec<String> = tally.pairs.iter().filter(|(pair, _)| pair.0 == kind).map(|(pair, n)| format!("{}:{n}", pair.1)).collect();
         writeln!(log, "agree: {name:8} {}", counts.join(" ")).unwrap();
@@ -459,6 +703,8 @@ fn desk_and_plain_program_agree() {
         let counts: Vec<String> = APARTS.iter().map(|apart| format!("{apart:?}:{}", tally.margins.get(&(margin, *apart)).unwrap_or(&0))).collect();
         writeln!(log, "agree: margin {margin:2} {}", counts.join(" ")).unwrap();
     }
+    let counts: Vec<String> = seen_pictures().iter().map(|seen| format!("{seen:?}:{}", tally.pictures.get(seen).unwrap_or(&0))).collect();
+    writeln!(log, "agree: pictures {}", counts.join(" ")).unwrap();
     for pair in tally.pairs.keys() {
         assert!(gen::possible().contains(pair), "{} answers {}, which docs/FORMATS.md does not give it", CALLS[pair.0], pair.1);
     }
@@ -475,6 +721,10 @@ fn desk_and_plain_program_agree() {
         for (margin, apart) in MARGINS.into_iter().flat_map(|margin| APARTS.map(|apart| (margin, apart))) {
             let times = tally.margins.get(&(margin, apart)).copied().unwrap_or(0);
             assert!(times >= OFTEN, "{apart:?} occurs only {times} times with margin {margin}, so the run shows too little");
+        }
+        for seen in seen_pictures() {
+            let times = tally.pictures.get(&seen).copied().unwrap_or(0);
+            assert!(times >= OFTEN, "{seen:?} occurs only {times} times, so the run shows too little");
         }
     }
 }

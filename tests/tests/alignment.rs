@@ -64,6 +64,7 @@ fn check(call: &Call, places: Places, before: &Values, wanted: (Answer, &Values)
         bytes: Placed::new(&before.bytes, places[3]),
         numbers: Placed::new(&before.numbers, places[4]),
         words: Placed::new(&before.words, places[5]),
+        drawn: [0; 3],
     };
     let answer = run!(desk, call, &mut lent);
     let place = || format!("{} with its areas at {places:?} modulo {LINE}", CALLS[call.kind()]);
@@ -74,14 +75,14 @@ fn check(call: &Call, places: Places, before: &Values, wanted: (Answer, &Values)
 }
 
 /// Which areas a call is lent.
-fn areas(call: &Call) -> Vec<usize> {
-    let own: &[usize] = match call {
-        Call::Open | Call::Close { .. } | Call::Withdraw { .. } => &[],
-        Call::Interval { .. } => &[4],
-        Call::Route { .. } => &[3, 5],
-        Call::Audit { .. } | Call::Post { .. } => &[2],
-    };
-    [0, 1].iter().chain(own).copied().collect()
+fn areas(call: &Call) -> &'static [usize] {
+    match call {
+        Call::Open | Call::Close { .. } | Call::Withdraw { .. } => &[0, 1],
+        Call::Interval { .. } => &[0, 1, 4],
+        Call::Route { .. } => &[0, 1, 3, 5],
+        Call::Audit { .. } | Call::Post { .. } => &[0, 1, 2],
+        Call::Draw { .. } => &[0, 2],
+    }
 }
 
 /// The call with all areas at multiples of 64, which is right by the plain program; then each area in turn at each of its places; then all at once.
@@ -90,7 +91,7 @@ fn everywhere(rng: &mut Rng, file: &[u8], board: &[u8], call: &Call) -> (Answer,
     let mut left = before.clone();
     let answer = run!(plain, call, &mut left);
     check(call, [0; 6], &before, (answer, &left));
-    for area in areas(call) {
+    for &area in areas(call) {
         for place in (0..LINE).step_by(STEPS[area]) {
             let mut places = [0; 6];
             places[area] = place;
@@ -110,14 +111,16 @@ fn any_calls(site: &Site, calls: usize) {
     let file = encode(site);
     for _ in 0..calls {
         let board = gen::board(&mut rng, site);
-        let call = Caller { site, file: &file, lights: vec![] }.any(&mut rng, &board);
+        let caller = Caller { site, file: &file, lights: vec![] };
+        let (call, draw) = (caller.any(&mut rng, &board), caller.draw(&mut rng, &board));
         everywhere(&mut rng, &file, &board, &call);
+        everywhere(&mut rng, &file, &board, &draw);
     }
 }
 
 #[test]
 fn four_in_line() {
-    for site in [0, 2].map(four::with_margin) {
+    for site in [four::with_margin(0), four::with_margin(2), four::with_centres(0)] {
         shift(&mut Rng::new(1), &site, everywhere);
         any_calls(&site, 200);
     }
@@ -125,7 +128,9 @@ fn four_in_line() {
 
 #[test]
 fn large_site() {
-    let site = gen::site(&mut Rng::new(1), Size::Large);
-    shift(&mut Rng::new(1), &site, everywhere);
-    any_calls(&site, 40);
+    let without = Site { centres: vec![], ..gen::site(&mut Rng::new(1), Size::Large) };
+    for site in [without, gen::largest(&mut Rng::new(1), 0, true)] {
+        shift(&mut Rng::new(1), &site, everywhere);
+        any_calls(&site, 40);
+    }
 }

@@ -2,7 +2,7 @@
 
 #![cfg(not(feature = "standin"))]
 
-use dispatch_tests::literal::{encode, Motion, Site, State, Sweep};
+use dispatch_tests::literal::{encode, Centre, Motion, Site, State, Sweep};
 use dispatch_tests::literal::{MAX_CELLS, MAX_H, MAX_MARGIN, MAX_MOTIONS, MAX_SITE, MAX_STATES, MAX_SWEEPS, SWEEP_LEN};
 use dispatch_tests::{c, four};
 use std::fs;
@@ -10,10 +10,10 @@ use std::process::Command;
 use std::sync::Once;
 
 /// Each area in turn as a null pointer of length 0: the answer is that of an empty area. Between them, an output area that is one byte too
-/// short, and one that just suffices (its arrival, 5).
+/// short, and one that just suffices (its arrival, 5); at last a draw that is refused with 20, and one that is not (its kind, 2).
 #[test]
 fn null_areas() {
-    let site: Vec<String> = four::bytes().iter().map(u8::to_string).collect();
+    let site: Vec<String> = four::drawn_bytes().iter().map(u8::to_string).collect();
     let source = format!(
         r#"
 #include <stdio.h>
@@ -46,11 +46,15 @@ int main(void) {{
     say(dispatch_close(site, SITE, 0, 0, 200, 0, 0, 0));
     say(dispatch_withdraw(0, 0, board, 56, 200));
     say(dispatch_withdraw(site, SITE, 0, 0, 200));
+    say(dispatch_draw(0, 0, light, 33, 0, 0).word);
+    say(dispatch_draw(site, SITE, 0, 0, 0, 0).word);
+    say(dispatch_draw(site, SITE, light, 33, 0, 17).word);
+    say(dispatch_draw(site, SITE, light, 33, 0, 16).word >> 8);
 }}
 "#,
         site.join(", ")
     );
-    assert_eq!(c::run("null_areas", &source), "3 7 3 7 14 3 7 14 14 14 5 3 7 8 3 7 8 3 7 3 7 ");
+    assert_eq!(c::run("null_areas", &source), "3 7 3 7 14 3 7 14 14 14 5 3 7 8 3 7 8 3 7 3 7 3 8 20 2 ");
 }
 
 /// As many states, cells and motions as a site may have, and the largest margin. Motion k leads from state k to the next one, in a ring. The cells have a
@@ -69,12 +73,21 @@ fn largest() -> Site {
     let mut motions: Vec<Motion> = (0..MAX_STATES).map(|s| motion(s, (s + 1) % MAX_STATES, 1)).collect();
     motions.extend((shared.start..shared.end - 1).cycle().take(MAX_MOTIONS - MAX_STATES).map(|s| motion(s + 1, s, 255)));
     let states = (0..MAX_STATES).map(|s| State { cell: cell(s), speed: 0 }).collect();
-    let mut site = Site { h: MAX_H, c: MAX_CELLS, margin: MAX_MARGIN, states, motions };
+    let mut site = Site { h: MAX_H, c: MAX_CELLS, margin: MAX_MARGIN, states, motions, centres: vec![] };
     let mut room = MAX_SITE - encode(&site).len();
     for motion in &mut site.motions[MAX_STATES..] {
         let more = (MAX_SWEEPS - 1).min(room / SWEEP_LEN);
         motion.sweeps.extend((0..more).map(|k| Sweep { cell: k as u16, a: 0, b: 255 }));
         room -= more * SWEEP_LEN;
+    }
+    site
+}
+
+/// The same with a centre for each cell, and as many motions as then have room.
+fn largest_with_centres() -> Site {
+    let mut site = Site { centres: (0..MAX_CELLS as u16).map(|cell| Centre { x: 65_535 - cell, y: cell }).collect(), ..largest() };
+    while encode(&site).len() > MAX_SITE {
+        site.motions.pop();
     }
     site
 }
@@ -88,12 +101,12 @@ const CALLS: &str = r#"
 #include <string.h>
 #include <sys/mman.h>
 #include "include/dispatch.h"
-enum { HEAD = 18, FULL = DISPATCH_MOST_LIGHT_BYTES, LONG = HEAD + 5 * 100000, LAST = 15 };
-static uint8_t site[DISPATCH_MOST_SITE_BYTES + 1], light[LONG], out[FULL];
+enum { HEAD = 18, FULL = DISPATCH_MOST_LIGHT_BYTES, LONG = HEAD + 5 * 100000, LAST = 21 };
+static uint8_t site[DISPATCH_MOST_SITE_BYTES + 1], centred[DISPATCH_MOST_SITE_BYTES + 1], light[LONG], out[FULL];
 /* no steps, and a dwell of 1,000 */
 static const uint8_t dock[HEAD] = {16, 0, 15, 0, 0, 0, 3, 7, 0, 0, 0, 0, 0, 0, 0, 0, 3, 232};
 static uint16_t numbers[DISPATCH_INTERVAL_NUMBERS(DISPATCH_MOST_H)];
-static size_t site_len, board_len = DISPATCH_BOARD_BYTES(DISPATCH_MOST_H, DISPATCH_MOST_C), work_len = DISPATCH_WORK_WORDS(DISPATCH_MOST_H, DISPATCH_MOST_S);
+static size_t site_len, centred_len, board_len = DISPATCH_BOARD_BYTES(DISPATCH_MOST_H, DISPATCH_MOST_C), work_len = DISPATCH_WORK_WORDS(DISPATCH_MOST_H, DISPATCH_MOST_S);
 static uint8_t *board;
 static uint32_t *work;
 static int call;
@@ -115,14 +128,21 @@ static void *run(void *unused) {
     case 13: word = dispatch_route(0, 0, 0, 0, 0, 0, 0, 0, 0, 0, 0, 0, 0); break;
     case 14: word = dispatch_post(0, 0, 0, 0, 0, 0); break;
     /* a light of 980 motions, and a dwell up to the horizon */
-    case LAST: word = dispatch_route(site, site_len, board, board_len, 8, 1, 0, 981, 20, out, sizeof out, work, work_len); break;
+    case 15: word = dispatch_route(site, site_len, board, board_len, 8, 1, 0, 981, 20, out, sizeof out, work, work_len); break;
+    /* a motion and a step past the last, on a site with centres; without; a light that is too long; refused at once; and opened with centres */
+    case 16: word = dispatch_draw(centred, centred_len, light, FULL, 999, 16).word; break;
+    case 17: word = dispatch_draw(centred, centred_len, light, FULL, 65535, 16).word; break;
+    case 18: word = dispatch_draw(site, site_len, light, FULL, 999, 16).word; break;
+    case 19: word = dispatch_draw(centred, centred_len, light, LONG, 999, 16).word; break;
+    case 20: word = dispatch_draw(0, 0, 0, 0, 0, 0).word; break;
+    case LAST: word = dispatch_open(centred, centred_len, board, board_len); break;
     }
     return unused;
 }
 static size_t said(void) {
     switch (call) {
-    case 3: case 12: case 13: case LAST: return DISPATCH_STACK_ROUTE;
-    case 4: case 5: case 6: case 9: case 10: case 14: return DISPATCH_STACK_LIGHT;
+    case 3: case 12: case 13: case 15: return DISPATCH_STACK_ROUTE;
+    case 4: case 5: case 6: case 9: case 10: case 14: case 16: case 17: case 18: case 19: case 20: return DISPATCH_STACK_LIGHT;
     default: return DISPATCH_STACK;
     }
 }
@@ -137,6 +157,9 @@ static void prepare(void) {
     FILE *file = fopen("target/c/largest.bin", "rb");
     if (!file) exit(4);
     site_len = fread(site, 1, sizeof site, file);
+    fclose(file);
+    if (!(file = fopen("target/c/largest_with_centres.bin", "rb"))) exit(4);
+    centred_len = fread(centred, 1, sizeof centred, file);
     fclose(file);
     board = calloc(board_len, 1);
     work = calloc(work_len, sizeof *work);
@@ -192,15 +215,16 @@ int main(void) {
 "#;
 
 /// The numbers of the measured calls, as they come.
-const ANSWERS: [u8; 15] = [0, 0, 0, 8, 0, 0, 0, 0, 0, 0, 0, 12, 3, 3, 0];
+const ANSWERS: [u8; 21] = [0, 0, 0, 8, 0, 0, 0, 0, 0, 0, 0, 12, 3, 3, 0, 0, 0, 20, 8, 3, 0];
 
-/// Builds the calls with a main function, and runs them on the largest site, whose file is written once for all.
+/// Builds the calls with a main function, and runs them on the largest sites, whose files are written once for all.
 fn on_largest(name: &str, main: &str) -> String {
     static WRITTEN: Once = Once::new();
     WRITTEN.call_once(|| {
         let folder = c::root().join("target/c");
         fs::create_dir_all(&folder).unwrap();
         fs::write(folder.join("largest.bin"), encode(&largest())).unwrap();
+        fs::write(folder.join("largest_with_centres.bin"), encode(&largest_with_centres())).unwrap();
     });
     c::run(name, &format!("{CALLS}{main}"))
 }
@@ -240,7 +264,7 @@ fn no_state() {
     assert_eq!(of("U"), ["memset"]);
     let mut calls = of("T");
     calls.sort_unstable();
-    let names = ["audit", "close", "interval", "open", "post", "route", "travel", "withdraw"];
+    let names = ["audit", "close", "draw", "interval", "open", "post", "route", "travel", "withdraw"];
     assert_eq!(calls, names.map(|name| format!("dispatch_{name}")));
     assert!(symbols.iter().all(|words| ["U", "T", "t", "r"].contains(&words[1])), "{listed}");
 }

@@ -2,11 +2,11 @@
 
 #![cfg(not(feature = "standin"))]
 
-use dispatch::{Desk, Granted, Refusal, Sizes, Trip};
+use dispatch::{calls, Desk, Drawn, Granted, Picture, Place, Refusal, Sizes, Trip, Word};
 use dispatch_tests::gen::{self, Call, Caller, Rng, Size};
-use dispatch_tests::literal::{encode, Light, Site, Step};
+use dispatch_tests::literal::{self, encode, Light, Site, Step};
 use dispatch_tests::plain_board::PlainBoard;
-use dispatch_tests::{c, docs, four};
+use dispatch_tests::{c, docs, four, literal_desk};
 use std::fs;
 use std::path::{Path, PathBuf};
 use std::process::{Command, Output};
@@ -39,8 +39,25 @@ fn turn(desk: &mut Desk, model: &mut PlainBoard, site: &Site, call: &Call) -> (u
         }
         &Call::Withdraw { holder } => (both(&desk.withdraw(holder), model.withdraw(holder).number, call), None),
         &Call::Interval { cell, .. } => (number(&desk.intervals(cell)), None),
+        Call::Draw { light, step, frame } => (pictured(desk, light, *step, *frame), None),
         Call::Open => panic!("no list opens a board"),
     }
+}
+
+/// A draw through the package, and by the literal reading, whose places and shares are in sixteenths.
+fn pictured(desk: &Desk, light: &[u8], step: u16, frame: u8) -> u8 {
+    let float = |sixteenths: u32| sixteenths as f32 / 16.0;
+    let place = |(x, y)| Place { x: float(x), y: float(y) };
+    let wanted = match literal_desk::picture(desk.site(), light, step, frame) {
+        Err(number) => Err(Refusal::of(number).unwrap()),
+        Ok(literal::Picture::OffFloor) => Ok(Picture::OffFloor),
+        Ok(literal::Picture::Standing(at)) => Ok(Picture::Standing(place(at))),
+        Ok(literal::Picture::Rolling(at, share)) => Ok(Picture::Rolling(place(at), float(share))),
+    };
+    let drawn = desk.draw(light, step, frame);
+    assert_eq!(drawn, wanted, "step {step}, frame {frame} of {light:?}");
+    assert_eq!(calls::draw(desk.site(), light, step, frame).picture(), wanted);
+    number(&drawn)
 }
 
 fn both(result: &Result<(), Refusal>, wanted: u8, call: &Call) -> u8 {
@@ -71,7 +88,8 @@ fn compare(desk: &Desk, model: &PlainBoard, site: &Site) {
 #[test]
 fn desk_and_plain_board_agree() {
     let mut rng = Rng::new(11);
-    let mut seen = [0; 20];
+    let mut seen = [0; 21];
+    let mut drawn = [0; 21];
     for _ in 0..300 {
         let size = rng.pick(&[Size::Tiny, Size::Row, Size::Row, Size::Small]);
         let site = gen::site(&mut rng, size);
@@ -85,6 +103,8 @@ fn desk_and_plain_board_agree() {
             seen[number as usize] += 1;
             caller.lights.extend(light);
             assert_eq!(desk.board(), model.bytes());
+            let draw = caller.draw(&mut rng, desk.board());
+            drawn[turn(&mut desk, &mut model, &site, &draw).0 as usize] += 1;
         }
         compare(&desk, &model, &site);
         assert_eq!(Desk::resume(&file, desk.board()).as_ref(), Ok(&desk));
@@ -92,6 +112,39 @@ fn desk_and_plain_board_agree() {
     }
     for number in [0, 8, 9, 10, 11, 12, 13, 16, 17, 18] {
         assert!(seen[number] >= 20, "number {number} occurs only {} times", seen[number]);
+    }
+    for number in [0, 8, 10, 20] {
+        assert!(drawn[number] >= 200, "number {number} of a draw occurs only {} times", drawn[number]);
+    }
+}
+
+/// The worked hall with centres through the package, by hand; and what it makes of words that the archive does not give.
+#[test]
+fn pictures() {
+    let mut desk = Desk::open(&four::drawn_bytes()).unwrap();
+    desk.close(200, 3, 0..=8).unwrap();
+    let light = desk.route(Trip { tug: 7, start: 0, tick: 0, goal: 4, dwell: 0 }).unwrap().light;
+    assert_eq!(light, four::hex(four::B_LIGHT));
+    let at = |x, y| Place { x, y };
+    assert_eq!(desk.draw(&light, 0, 9), Ok(Picture::Standing(at(0.0, 0.0))));
+    assert_eq!(desk.draw(&light, 1, 1), Ok(Picture::Rolling(at(62.5, 0.0), 0.0625)));
+    assert_eq!(desk.draw(&light, 2, 3), Ok(Picture::Rolling(at(1187.5, 93.75), 0.1875)));
+    assert_eq!((desk.draw(&light, 4, dispatch::LAST_FRAME), desk.draw(&light, 65_535, 0)), (Ok(Picture::OffFloor), Ok(Picture::OffFloor)));
+    for step in [0, 4] {
+        assert_eq!(desk.draw(&light, step, dispatch::LAST_FRAME + 1), Err(Refusal::NoPicture));
+    }
+    assert_eq!((desk.draw(&light[..37], 0, 0), desk.draw(&[], 0, 17)), (Err(Refusal::LightLayout), Err(Refusal::LightLayout)));
+    assert_eq!(Desk::open(&four::bytes()).unwrap().draw(&light, 0, 0), Err(Refusal::NoPicture));
+    assert_eq!(Refusal::NoPicture.to_string(), "the frame is above 16, or the site has no centres (20)");
+    let drawn = calls::draw(desk.site(), &light, 1, 1);
+    assert_eq!((drawn.word, drawn.x, drawn.y, drawn.share), (Word(2 << 8), 62.5, 0.0, 0.0625));
+    let of = |word| Drawn { word: Word(word), x: 1.0, y: 2.0, share: 0.5 };
+    assert_eq!(
+        [of(0), of(1 << 8), of(2 << 8)].map(Drawn::picture),
+        [Picture::OffFloor, Picture::Standing(at(1.0, 2.0)), Picture::Rolling(at(1.0, 2.0), 0.5)].map(Ok)
+    );
+    for unknown in [3 << 8, 21] {
+        assert!(std::panic::catch_unwind(|| of(unknown).picture()).is_err(), "{unknown}");
     }
 }
 

@@ -108,7 +108,7 @@ fn modest_site(rng: &mut Rng) -> Site {
         motions.swap(i, rng.below(i + 1));
     }
     let margin = if rng.percent(40) { 0 } else { gen::any_margin(rng) };
-    Site { h, c, margin, states, motions }
+    gen::perhaps_centres(rng, Site { h, c, margin, states, motions, centres: vec![] })
 }
 
 /// A route call on a board.

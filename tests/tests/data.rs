@@ -1,8 +1,8 @@
 //! Bytes worked out by hand, field by field, from the numbers of the worked hall and the layouts of docs/FORMATS.md, against the tests' own encoder and reader, the day program's
 //! data and the desk. What the desk's routes answer on 'Four in line' stands in `worked.rs`, and what the day program prints in `day.rs`.
 
-use dispatch_tests::desk::{self, Answer};
-use dispatch_tests::literal::{encode, fields, number, put, Light, Motion, Site, State, Step, Sweep};
+use dispatch_tests::desk::{self, Answer, Drawn, OFF_FLOOR, ROLLING, STANDING};
+use dispatch_tests::literal::{encode, fields, number, put, Centre, Light, Motion, Site, State, Step, Sweep};
 use dispatch_tests::plain_board::PlainBoard;
 use dispatch_tests::{c, day, four};
 use std::fs;
@@ -51,6 +51,15 @@ const SITE: [(&str, &str); 34] = [
     ("0001 00 01", "cell 1 at 0 to 1"), ("0002 01 02", "cell 2 at 1 to 2"),
 ];
 
+/// The centres that the worked hall has in docs/FORMATS.md, behind its motions.
+#[rustfmt::skip]
+const CENTRES: [(&str, &str); 8] = [
+    ("04 0004", "cell 0, 4 bytes"), ("0000 0000", "x 0, y 0"),
+    ("04 0004", "cell 1, 4 bytes"), ("03E8 0000", "x 1,000, y 0"),
+    ("04 0004", "cell 2, 4 bytes"), ("07D0 01F4", "x 2,000, y 500"),
+    ("04 0004", "cell 3, 4 bytes"), ("0BB8 01F4", "x 3,000, y 500"),
+];
+
 /// The worked script.
 #[rustfmt::skip]
 const SCRIPT: [(&str, &str); 11] = [
@@ -92,6 +101,14 @@ fn site_file() {
     assert_eq!(Site::read(&bytes(&SITE)), Ok(four::site()));
     same(&file("data/site.bin"), &SITE, "crates/day/data/site.bin");
     assert_eq!(file("data/site.bin"), four::bytes());
+}
+
+#[test]
+fn site_file_with_centres() {
+    same(&four::drawn_bytes(), &[&SITE[..], &CENTRES[..]].concat(), "the encoder's file");
+    let written = [bytes(&SITE), bytes(&CENTRES)].concat();
+    assert_eq!((Site::read(&written), written.len()), (Ok(four::with_centres(0)), 144));
+    assert_eq!(desk::open(&written, &mut [9; 56]), Answer::plain(0));
 }
 
 /// That the script is the one made with `put` stands in `day.rs`, `worked_example`.
@@ -142,7 +159,7 @@ fn wide() -> Site {
     motions[258] = motion(255, 0, [258, 513]);
     let mut states = vec![State { cell: 513, speed: 0 }; 256];
     states[255].cell = 258;
-    Site { h: 1_000, c: 700, margin: 0, states, motions }
+    Site { h: 1_000, c: 700, margin: 0, states, motions, centres: vec![] }
 }
 
 /// The file of that site: H 1,000, 700 cells, 256 states, margin 0; then the states and the motions.
@@ -154,6 +171,15 @@ fn wide_bytes() -> Vec<u8> {
 }
 
 const WIDE_BOARD: usize = 4 + 700 * 1_001;
+
+/// A centre for each of its cells: cell 258 has x 259 and y 772, cell 513 has x 24,929 and y 65,026, and the others have x and y 65,535.
+const CENTRE_258: &str = "04 0004 0103 0304";
+const CENTRE_513: &str = "04 0004 6161 FE02";
+
+fn wide_centres() -> Vec<u8> {
+    let others = |n: usize| "04 0004 FFFF FFFF ".repeat(n);
+    four::hex(&[&others(258)[..], CENTRE_258, &others(513 - 259), CENTRE_513, &others(700 - 514)].concat())
+}
 
 /// Edition 16,909,060, tug 7, from state 255 at 261 to state 0, arrival 521, dwell 300; wait 259, motion 258.
 const WIDE_LIGHT: &str = "10 000F 01020304 07 00FF 0105 0000 0209 012C, 11 0002 0103, 12 0002 0102";
@@ -180,6 +206,29 @@ fn wide_site() {
     assert_eq!((changed(10 + 3, "02BC"), changed(10 + 3, "02BB")), (Some(5), Some(6)));
 }
 
+/// The wait of that light stands on cell 258, the motion leads from there to cell 513.
+#[test]
+fn wide_pictures() {
+    let file = [wide_bytes(), wide_centres()].concat();
+    let site = Site::read(&file).unwrap();
+    assert!(encode(&site) == file && site == (Site { centres: site.centres.clone(), ..wide() }), "the encoder's file");
+    assert_eq!((site.centres[258], site.centres[513]), (Centre { x: 259, y: 772 }, Centre { x: 24_929, y: 65_026 }));
+    assert_eq!(desk::open(&file, &mut vec![9; WIDE_BOARD]), Answer::plain(0));
+    let light = four::hex(WIDE_LIGHT);
+    let drawn = |kind, x, y, share| Drawn { number: 0, kind, x, y, share };
+    assert_eq!(desk::draw(&file, &light, 0, 16), drawn(STANDING, 259.0, 772.0, 0.0));
+    assert_eq!(desk::draw(&file, &light, 1, 0), drawn(ROLLING, 259.0, 772.0, 0.0));
+    // A sixteenth of 24,670 is 1,541.875, and one of 64,254 is 4,015.875.
+    assert_eq!(desk::draw(&file, &light, 1, 1), drawn(ROLLING, 1_800.875, 4_787.875, 0.0625));
+    assert_eq!(desk::draw(&file, &light, 1, 16), drawn(ROLLING, 24_929.0, 65_026.0, 1.0));
+    assert_eq!(desk::draw(&file, &light, 2, 16), Drawn::plain(0, OFF_FLOOR));
+    // Steps 256 and 512, whose low bytes are 0.
+    for step in [256, 512] {
+        assert_eq!(desk::draw(&file, &light, step, 0), Drawn::plain(0, OFF_FLOOR));
+    }
+    assert_eq!(desk::draw(&wide_bytes(), &light, 0, 0), Drawn::plain(20, OFF_FLOOR));
+}
+
 /// No byte twice. Such numbers are too large for any site, but not for the layout.
 #[test]
 fn distinct_bytes() {
@@ -189,8 +238,9 @@ fn distinct_bytes() {
     assert_eq!(light.encode(), bytes);
     assert_eq!(Light::read(&bytes), Some(light));
     let motions = vec![Motion { from: 0x0102, to: 0x0304, d: 5, sweeps: vec![Sweep { cell: 0x0607, a: 8, b: 9 }] }];
-    let site = Site { h: 0x0a0b, c: 0x0c0d, margin: 0x12, states: vec![State { cell: 0x0e0f, speed: 0x10 }], motions };
-    assert_eq!(encode(&site), four::hex("01 0007 0A0B 0C0D 0001 12, 02 0003 0E0F 10, 03 0009 0102 0304 05, 0607 08 09"));
+    let centres = vec![Centre { x: 0x1314, y: 0x1516 }];
+    let site = Site { h: 0x0a0b, c: 0x0c0d, margin: 0x12, states: vec![State { cell: 0x0e0f, speed: 0x10 }], motions, centres };
+    assert_eq!(encode(&site), four::hex("01 0007 0A0B 0C0D 0001 12, 02 0003 0E0F 10, 03 0009 0102 0304 05, 0607 08 09, 04 0004 1314 1516"));
     let mut field = Vec::new();
     put(&mut field, 9, &[7; 0x0102]);
     assert_eq!(field, four::hex(&format!("09 0102 {}", "07".repeat(258))));

@@ -214,7 +214,7 @@ fn margin_between_tugs() {
 fn large_hall(c: usize, h: usize) -> Site {
     let states = [256, 0].map(|cell| State { cell, speed: 0 }).to_vec();
     let sweeps = vec![Sweep { cell: 256, a: 0, b: 1 }, Sweep { cell: 0, a: 1, b: 1 }];
-    Site { h, c, margin: 0, states, motions: vec![Motion { from: 0, to: 1, d: 1, sweeps }] }
+    Site { h, c, margin: 0, states, motions: vec![Motion { from: 0, to: 1, d: 1, sweeps }], centres: vec![] }
 }
 
 /// Request 6, by its text: what is printed is written out here.
@@ -252,6 +252,44 @@ fn halls_above_255_cells() {
     let old = four::hex("01 0006 000C 04 0005 00, 02 0002 00 00, 02 0002 01 01, 02 0002 01 00, 02 0002 02 01, 02 0002 03 00");
     fs::write(folder.join("site.bin"), old).unwrap();
     assert_eq!(output(&folder, &worked_script()), "3 0 0\n");
+}
+
+/// Request 7, by its text: a site with a centre for each cell is a site as any other, and with another number of them it is refused.
+#[test]
+fn sites_with_centres() {
+    let folder = folder("centres");
+    let site_bin = folder.join("site.bin");
+    let centre = |x: u16| [&[4, 0, 4][..], &x.to_be_bytes(), &[1, 244]].concat();
+    for (n, lines) in [(0, "0 1 0\n0 1 10\n0 2 0\n"), (1, "4 0 0\n"), (3, "4 0 0\n"), (4, "0 1 0\n0 1 10\n0 2 0\n"), (5, "4 0 0\n"), (8, "4 0 0\n")] {
+        let centres: Vec<u8> = (0..n).flat_map(|k| centre(1_000 * k)).collect();
+        fs::write(&site_bin, [four::bytes(), centres].concat()).unwrap();
+        assert_eq!(output(&folder, &worked_script()), lines, "{n} centres");
+        assert_eq!(output(&folder, &[]), if lines.starts_with('4') { lines } else { "0 0 0\n" }, "{n} centres and an empty script");
+    }
+    // Before the last motion, of 5 bytes, and with tag 5.
+    let (file, centres) = (four::bytes(), (0..4).flat_map(centre).collect::<Vec<u8>>());
+    let five: Vec<u8> = (0..4).flat_map(|k| [&[4, 0, 5], &centre(k)[3..], &[0]].concat()).collect();
+    let tag_5: Vec<u8> = centres.chunks(7).flat_map(|field| [&[5], &field[1..]].concat()).collect();
+    for wrong in [[&file[..100], &centres, &file[100..]].concat(), [&file[..], &five].concat(), [&file[..], &tag_5].concat()] {
+        fs::write(&site_bin, &wrong).unwrap();
+        assert_eq!(output(&folder, &worked_script()), "4 0 0\n");
+    }
+    // The script has no field for pictures.
+    fs::write(&site_bin, four::drawn_bytes()).unwrap();
+    assert_eq!(output(&folder, &[36, 0, 3, 0, 0, 0]), "99 0 0\n");
+    // Whatever the script is, the lines are those of the site without centres.
+    let mut rng = Rng::new(6);
+    for run in 0..40 {
+        let size = rng.pick(&[Size::Row, Size::Small]);
+        let without = Site { centres: vec![], ..gen::site(&mut rng, size) };
+        let script = gen::script(&mut rng, &without);
+        let with_centres = Site { centres: gen::centres(&mut rng, without.c), ..without.clone() };
+        let lines = [without, with_centres].map(|site| {
+            fs::write(&site_bin, encode(&site)).unwrap();
+            output(&folder, &script)
+        });
+        assert_eq!(lines[0], lines[1], "script {run}");
+    }
 }
 
 /// Scripts on halls of 640 cells with the longest horizon that the areas have room for.
@@ -389,7 +427,8 @@ fn random_scripts() {
     let (mut dwells, mut margins) = (0, 0);
     for run in 0..runs {
         let size = rng.pick(&[Size::Tiny, Size::Row, Size::Row, Size::Small, Size::Small, Size::Middle]);
-        let site = if rng.percent(40) { four::with_margin(gen::any_margin(&mut rng)) } else { gen::site(&mut rng, size) };
+        let worked = |rng: &mut Rng| if rng.percent(40) { four::with_centres(gen::any_margin(rng)) } else { four::with_margin(gen::any_margin(rng)) };
+        let site = if rng.percent(40) { worked(&mut rng) } else { gen::site(&mut rng, size) };
         let script = gen::script(&mut rng, &site);
         let mut file = encode(&site);
         if rng.percent(5) {
@@ -437,7 +476,7 @@ fn stack_of_1_5_mib() {
     };
     let states = [(0, 1), (1, 1), (2, 0)].map(|(cell, speed)| State { cell, speed }).to_vec();
     let motions = vec![motion(0, 1, [0, 1]), motion(1, 0, [1, 0]), motion(0, 2, [0, 2])];
-    let site = Site { h: 1_000, c: 3, margin: 0, states, motions };
+    let site = Site { h: 1_000, c: 3, margin: 0, states, motions, centres: vec![] };
     fs::write(folder.join("site.bin"), encode(&site)).unwrap();
     let mut script = Vec::new();
     put(&mut script, 32, &[200, 0, 2, 0, 0, 3, 230]);

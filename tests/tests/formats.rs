@@ -2,10 +2,10 @@
 
 #![cfg(not(feature = "standin"))]
 
-use dispatch::{steps, Desk, Granted, Refusal, Sizes, Step, Trip};
+use dispatch::{steps, Desk, Granted, Picture, Place, Refusal, Sizes, Step, Trip};
 use dispatch_tests::docs::{block, bytes, header_numbers, table, text};
 use dispatch_tests::gen::{self, CALLS};
-use dispatch_tests::literal::encode;
+use dispatch_tests::literal::{self, encode, Light};
 use dispatch_tests::{c, day, four};
 use std::fs;
 use std::path::{Path, PathBuf};
@@ -25,6 +25,19 @@ fn whole_site_file() {
     assert_eq!(file, fs::read(c::root().join("crates/day/data/site.bin")).unwrap());
     assert_eq!(file, four::bytes());
     assert_eq!(file.len(), 116);
+}
+
+/// The worked hall with centres: its 116 bytes and four fields, which the desk takes.
+#[test]
+fn whole_site_file_with_centres() {
+    let file = [hex("# head: H 12, C 4, S 5"), hex("# centre of cell 0")].concat();
+    assert_eq!((file.len(), &file), (144, &four::drawn_bytes()));
+    let fields: Vec<String> = block(&formats(), "hex", "# centre of cell 0").lines().map(str::to_string).collect();
+    for (cell, (line, centre)) in fields.iter().zip(four::with_centres(0).centres).enumerate() {
+        let said = line.replace(',', "");
+        assert!(said.ends_with(&format!("# centre of cell {cell}: x {} y {}", centre.x, centre.y)), "{line}");
+    }
+    assert_eq!((fields.len(), opened(file.clone()), opened(file[..137].to_vec())), (4, 0, 4));
 }
 
 /// The example with cells above 255: the desk takes it, and a route leads from the one cell to the other.
@@ -123,6 +136,35 @@ fn routes_of_four_in_line() {
     }
 }
 
+/// A picture in the words of the table.
+fn picture_in_words(drawn: Result<Picture, Refusal>) -> String {
+    match drawn {
+        Err(refusal) => refusal.number().to_string(),
+        Ok(Picture::OffFloor) => "off the floor".to_string(),
+        Ok(Picture::Standing(Place { x, y })) => format!("standing at {x}, {y}"),
+        Ok(Picture::Rolling(Place { x, y }, share)) => format!("rolling at {x}, {y}, share {share}"),
+    }
+}
+
+#[test]
+fn pictures_of_four_in_line() {
+    let desk = Desk::open(&four::drawn_bytes()).unwrap();
+    let rows = table(&formats(), "| light | step | frame | picture |");
+    assert!(rows.len() >= 12);
+    for row in rows {
+        let step = |word: &str| if word.starts_with('W') { literal::Step::Wait(numbers_in(word)[0]) } else { literal::Step::Move(numbers_in(word)[0]) };
+        let steps = row[0].split_whitespace().map(step).collect();
+        let light = Light { edition: 0, tug: 7, start: 0, tick: 0, goal: 4, arrival: 5, dwell: 0, steps }.encode();
+        let said = picture_in_words(desk.draw(&light, row[1].parse().unwrap(), row[2].parse().unwrap()));
+        let wanted = row[3].split([':']).next().unwrap().split(", though").next().unwrap();
+        assert_eq!(said, wanted, "{row:?}");
+    }
+    // The kinds, as the table of pictures has them.
+    let kinds: Vec<(String, String)> =
+        table(&formats(), "| picture | kind | when | x and y | share |").into_iter().map(|row| (row[0].clone(), row[1].clone())).collect();
+    assert_eq!(kinds, [("off the floor", "0"), ("standing", "1"), ("rolling", "2")].map(|(name, kind)| (name.to_string(), kind.to_string())));
+}
+
 /// What a call of the margins' table comes to, in its words; tug 8 is the one that is routed.
 fn called(desk: &mut Desk, call: &str) -> String {
     let numbers = numbers_in(call);
@@ -190,6 +232,18 @@ fn command_that_makes_a_file() {
     }
 }
 
+/// The command that puts centres behind a file, run as it is printed on the worked hall's.
+#[test]
+fn command_that_adds_centres() {
+    let command = block(&formats(), "bash", ">>site.bin");
+    let folder = Path::new(env!("CARGO_TARGET_TMPDIR")).join("centres");
+    fs::create_dir_all(&folder).unwrap();
+    fs::write(folder.join("site.bin"), four::bytes()).unwrap();
+    let done = Command::new("bash").args(["-c", &command]).current_dir(&folder).env("LC_ALL", "C.UTF-8").output().unwrap();
+    assert!(done.status.success() && done.stdout.is_empty() && done.stderr.is_empty(), "{done:?}");
+    assert_eq!(fs::read(folder.join("site.bin")).unwrap(), four::drawn_bytes());
+}
+
 /// `STALE_LIGHT` as `StaleLight`.
 fn in_rust(name: &str) -> String {
     name.split('_').map(|word| word[..1].to_string() + &word[1..].to_lowercase()).collect()
@@ -201,7 +255,7 @@ fn numbers() {
     let header = header_numbers();
     assert_eq!((header[0].name.as_str(), header[0].number, header[0].text.as_str()), ("ACCEPTED", 0, "accepted"));
     let numbers: Vec<u8> = header.iter().map(|entry| entry.number).collect();
-    assert_eq!(numbers, (0..=19).collect::<Vec<u8>>());
+    assert_eq!(numbers, (0..=20).collect::<Vec<u8>>());
     let in_package: Vec<(u8, String, &str)> = Refusal::ALL.iter().map(|refusal| (refusal.number(), format!("{refusal:?}"), refusal.text())).collect();
     let in_header: Vec<(u8, String, &str)> = header[1..].iter().map(|entry| (entry.number, in_rust(&entry.name), entry.text.as_str())).collect();
     assert_eq!(in_package, in_header);

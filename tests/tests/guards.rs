@@ -28,6 +28,7 @@ fn compare(rng: &mut Rng, file: &[u8], board: &[u8], call: &Call) -> (Answer, Va
             bytes: Guarded::new(&before.bytes, side, true),
             numbers: Guarded::new(&before.numbers, side, true),
             words: Guarded::new(&before.words, side, true),
+            drawn: [0; 3],
         };
         let answer = run!(desk, call, &mut lent);
         assert_eq!(answer, expected, "{side:?}, {call:?}");
@@ -79,6 +80,14 @@ fn seeded_calls() {
                 board = left.board;
             }
         }
+        for _ in 0..4 {
+            let draw = caller.draw(&mut rng, &board);
+            let (answer, _) = compare(&mut rng, &file, &board, &draw);
+            *met.entry((draw.kind(), answer.number)).or_insert(0) += 1;
+        }
+        let (wrong, draw) = (gen::damaged_centres(&mut rng, &site, &[4]), caller.draw(&mut rng, &board));
+        compare(&mut rng, &wrong, &board, &Call::Open);
+        compare(&mut rng, &wrong, &board, &draw);
     }
     for (kind, number) in gen::possible() {
         let times = met.get(&(kind, number)).copied().unwrap_or(0);
@@ -90,47 +99,71 @@ fn seeded_calls() {
 fn four_in_line() {
     for margin in [0, 2] {
         shift(&mut Rng::new(1), &four::with_margin(margin), compare);
+        shift(&mut Rng::new(1), &four::with_centres(margin), compare);
     }
 }
 
 #[test]
 fn largest_site() {
     let mut rng = Rng::new(1);
-    let site = gen::largest(&mut rng, 1);
-    assert_eq!(encode(&site).len(), 65_534);
-    shift(&mut rng, &site, compare);
-    let file = encode(&site);
-    for _ in 0..60 {
-        let board = gen::board(&mut rng, &site);
-        let call = Caller { site: &site, file: &file, lights: vec![] }.any(&mut rng, &board);
-        compare(&mut rng, &file, &board, &call);
+    for with_centres in [false, true] {
+        let site = gen::largest(&mut rng, 1, with_centres);
+        assert_eq!(encode(&site).len(), 65_534);
+        shift(&mut rng, &site, compare);
+        let file = encode(&site);
+        for _ in 0..60 {
+            let board = gen::board(&mut rng, &site);
+            let caller = Caller { site: &site, file: &file, lights: vec![] };
+            let (call, draw) = (caller.any(&mut rng, &board), caller.draw(&mut rng, &board));
+            compare(&mut rng, &file, &board, &call);
+            compare(&mut rng, &file, &board, &draw);
+        }
     }
 }
 
-/// Each area of each call at every length below the needed one, the others whole: what is missing is never looked for.
+/// Each area of each call at every length below the needed one, the others whole: what is missing is never looked for. On the worked hall, and on the
+/// one with centres.
 #[test]
 fn every_cut() {
+    for file in [four::bytes(), four::drawn_bytes()] {
+        cuts(&file);
+    }
+}
+
+fn cuts(file: &[u8]) {
     let mut rng = Rng::new(1);
-    let (file, light, mut board) = (four::bytes(), four::hex(four::B_LIGHT), vec![0; 56]);
-    assert_eq!(plain::close(&file, &mut board, 200, 3, 0, 8), Answer::plain(0));
+    let (light, mut board) = (four::hex(four::B_LIGHT), vec![0; 56]);
+    assert_eq!(plain::close(file, &mut board, 200, 3, 0, 8), Answer::plain(0));
     let interval = |out| Call::Interval { cell: 3, out };
     let route = |out, work| Call::Route { tug: 7, start: 0, tick: 0, goal: 4, dwell: 2, out, work };
     let lights = |n| [Call::Audit { light: light[..n].to_vec() }, Call::Post { light: light[..n].to_vec() }];
     let others = [Call::Open, interval(14), route(78, 65), Call::Close { holder: 201, cell: 0, first: 0, last: 12 }, Call::Withdraw { holder: 200 }];
     for call in others.into_iter().chain(lights(light.len())) {
-        assert_eq!(compare(&mut rng, &file, &board, &call).0.number, 0, "{call:?}");
+        assert_eq!(compare(&mut rng, file, &board, &call).0.number, 0, "{call:?}");
         for n in 0..file.len() {
             compare(&mut rng, &file[..n], &board, &call);
         }
         for n in 0..board.len() {
-            assert_eq!(compare(&mut rng, &file, &board[..n], &call).0.number, 7, "{n} bytes of the board, {call:?}");
+            assert_eq!(compare(&mut rng, file, &board[..n], &call).0.number, 7, "{n} bytes of the board, {call:?}");
         }
     }
     for call in (0..light.len()).flat_map(lights) {
-        assert_ne!(compare(&mut rng, &file, &board, &call).0.number, 0, "{call:?}");
+        assert_ne!(compare(&mut rng, file, &board, &call).0.number, 0, "{call:?}");
     }
     for call in (0..14).map(interval).chain((0..78).map(|n| route(n, 65))).chain((0..65).map(|n| route(78, n))) {
-        assert_eq!(compare(&mut rng, &file, &board, &call).0.number, 14, "{call:?}");
+        assert_eq!(compare(&mut rng, file, &board, &call).0.number, 14, "{call:?}");
+    }
+    // A draw of each step, of one behind the last, and of a frame that there is not.
+    let drawn = if file.len() == 144 { 0 } else { 20 };
+    for (step, frame, number) in (0..5).map(|step| (step, 7, drawn)).chain([(0, 17, 20)]) {
+        let draw = |n: usize| Call::Draw { light: light[..n].to_vec(), step, frame };
+        assert_eq!(compare(&mut rng, file, &board, &draw(light.len())).0.number, number, "step {step}");
+        for n in 0..file.len() {
+            compare(&mut rng, &file[..n], &board, &draw(light.len()));
+        }
+        for n in 0..light.len() {
+            compare(&mut rng, file, &board, &draw(n));
+        }
     }
 }
 

@@ -5,8 +5,8 @@
 use dispatch_tests::desk::{self, Answer};
 use dispatch_tests::gen::{self, Call, Caller, Rng, Size};
 use dispatch_tests::lent::Values;
-use dispatch_tests::literal::{encode, fields, number, put, Light, Motion, Site, State, Step, Sweep, MOTION_LEN, STATE_LEN, SWEEP_LEN};
-use dispatch_tests::literal::{MAX_CELLS, MAX_MOTIONS, MAX_STATES};
+use dispatch_tests::literal::{encode, fields, number, put, Light, Motion, Site, State, Step, Sweep};
+use dispatch_tests::literal::{CENTRE_LEN, MAX_CELLS, MAX_MOTIONS, MAX_STATES, MOTION_LEN, STATE_LEN, SWEEP_LEN};
 use dispatch_tests::{four, literal_desk, plain, pull, run};
 use std::collections::{BTreeMap, BTreeSet};
 use std::io::Write;
@@ -90,7 +90,7 @@ fn numbers_of_states_and_motions() {
 fn full_hall() -> Site {
     let states = (0..1_280).map(|s| State { cell: s % 640, speed: 0 }).collect();
     let motion = |k: u16| Motion { from: k % 640, to: k % 640 + 640, d: 1, sweeps: vec![Sweep { cell: k % 640, a: 0, b: 1 }] };
-    Site { h: 1_000, c: 1_000, margin: 20, states, motions: (0..4_000).map(motion).collect() }
+    Site { h: 1_000, c: 1_000, margin: 20, states, motions: (0..4_000).map(motion).collect(), centres: vec![] }
 }
 
 /// The lengths from before a cell had two bytes.
@@ -122,7 +122,7 @@ fn older_lengths() {
 fn corridor(cells: u16, h: usize, margin: usize) -> Site {
     let states = (0..cells).map(|cell| State { cell, speed: 0 }).collect();
     let motion = |k: u16| Motion { from: k, to: k + 1, d: 1, sweeps: vec![Sweep { cell: k, a: 0, b: 1 }, Sweep { cell: k + 1, a: 1, b: 1 }] };
-    Site { h, c: cells as usize, margin, states, motions: (0..cells - 1).map(motion).collect() }
+    Site { h, c: cells as usize, margin, states, motions: (0..cells - 1).map(motion).collect(), centres: vec![] }
 }
 
 /// The safe intervals of a cell, one number after the other.
@@ -272,6 +272,13 @@ enum Seen {
     /// A granted route to a state above 255 with a motion above 1,999, and an accepted light with such a motion.
     RouteHigh,
     LightHigh,
+    /// A tug drawn at the centre of a cell above 255, or between two of them, where the cells that their low bytes name have other centres.
+    DrawAlike,
+    /// A tug drawn in a motion above 1,999 from or to a state above 255.
+    DrawHigh,
+    /// A hall with centres that is refused with one less, and with as many as C's low byte says.
+    CentresOneLess,
+    CentresLowByte,
 }
 
 /// What halls must show, and sites with many states and motions.
@@ -279,12 +286,12 @@ fn needed() -> Vec<Seen> {
     use Seen::*;
     let mut all = vec![Cells(256), Cells(640), Cells(MAX_CELLS), RouteAlike, LightAlike, RouteThroughBoth, Close, CloseAlike, CloseHeld];
     all.extend([CloseTooLarge, IntervalTooLarge, IntervalAlike, WithdrawAlike, FileStates, FileSweeps, FileCells]);
-    all.extend([OldHead(5), OldHead(6), OldState, OldSweeps]);
+    all.extend([OldHead(5), OldHead(6), OldState, OldSweeps, DrawAlike, CentresOneLess, CentresLowByte]);
     all
 }
 
-const NEEDED_OF_MANY: [Seen; 6] =
-    [Seen::States(257), Seen::States(MAX_STATES), Seen::Motions(2_001), Seen::Motions(MAX_MOTIONS), Seen::RouteHigh, Seen::LightHigh];
+const NEEDED_OF_MANY: [Seen; 7] =
+    [Seen::States(257), Seen::States(MAX_STATES), Seen::Motions(2_001), Seen::Motions(MAX_MOTIONS), Seen::RouteHigh, Seen::LightHigh, Seen::DrawHigh];
 
 /// The other cells with the same low byte.
 fn alike(site: &Site, cell: usize) -> impl Iterator<Item = usize> {
@@ -361,6 +368,14 @@ impl Tally {
                 let mut pairs = (256..site.c).flat_map(|cell| (0..=site.h).map(move |tick| (cell, tick)));
                 self.count([(Seen::WithdrawAlike, pairs.any(|pair| at(pair.0, pair.1) == holder && held_alike(&pair)))]);
             }
+            Call::Draw { ref light, step, .. } if accepted => {
+                let read = Light::read(light).unwrap();
+                let other = |state: u16| site.centres[site.cell(state as usize)] != site.centres[site.cell(state as usize) % 256];
+                if let Some(&Step::Move(k)) = read.steps.get(step as usize) {
+                    let (from, to) = (site.motions[k as usize].from, site.motions[k as usize].to);
+                    self.count([(Seen::DrawAlike, other(from) || other(to)), (Seen::DrawHigh, k > 1_999 && from.max(to) > 255)]);
+                }
+            }
             _ => {}
         }
     }
@@ -378,7 +393,23 @@ impl Tally {
                 caller.lights.push(left.bytes[..answer.value as usize].to_vec());
             }
             board = left.board;
+            if rng.percent(25) {
+                self.draw(rng, &caller, &file, &board);
+            }
         }
+    }
+
+    fn draw(&mut self, rng: &mut Rng, caller: &Caller, file: &[u8], board: &[u8]) {
+        let call = caller.draw(rng, board);
+        let (answer, left) = self.compare(rng, file, board, &call);
+        self.shown(caller.site, board, &call, answer, &left);
+    }
+
+    /// So many draws, with lights that are made on a board with any bytes.
+    fn draws(&mut self, rng: &mut Rng, site: &Site, draws: usize) {
+        let (file, board) = (encode(site), gen::board(rng, site));
+        let caller = Caller { site, file: &file, lights: vec![] };
+        (0..draws).for_each(|_| self.draw(rng, &caller, &file, &board));
     }
 
     /// Calls on a board with any bytes.
@@ -390,6 +421,16 @@ impl Tally {
             let (answer, left) = self.compare(rng, &file, &board, &call);
             self.shown(site, &board, &call, answer, &left);
         }
+    }
+
+    /// A file whose centres are wrong, or sometimes right, through an open with the site's board.
+    fn centres(&mut self, rng: &mut Rng, site: &Site) {
+        let file = gen::damaged_centres(rng, site, &[4]);
+        let (answer, _) = self.compare(rng, &file, &vec![9; site.board_len()], &Call::Open);
+        assert_eq!(answer, Answer::plain(Site::read(&file).err().unwrap_or(0)));
+        let behind: Vec<(u8, &[u8])> = fields(&file).unwrap().into_iter().skip(1 + site.states.len() + site.motions.len()).collect();
+        let refused = answer.number == 4 && behind.iter().all(|&(tag, value)| tag == 4 && value.len() == CENTRE_LEN);
+        self.count([(Seen::CentresOneLess, refused && behind.len() + 1 == site.c), (Seen::CentresLowByte, refused && behind.len() == site.c % 256)]);
     }
 
     /// A damaged file, through an open with the site's board.
@@ -457,7 +498,9 @@ fn seeded_halls() {
         let site = gen::site(&mut rng, Size::Hall);
         tally.list(&mut rng, &site, 30);
         tally.any_board(&mut rng, &site, 6);
+        tally.draws(&mut rng, &site, 2);
         (0..8).for_each(|_| tally.file(&mut rng, &site));
+        (0..4).for_each(|_| tally.centres(&mut rng, &site));
     }
     tally.hold("cells", &needed());
 }
@@ -484,6 +527,7 @@ fn seeded_sites_of_many_states() {
         let site = gen::site(&mut rng, Size::Many);
         tally.list(&mut rng, &site, 30);
         tally.any_board(&mut rng, &site, 8);
+        tally.draws(&mut rng, &site, 40);
     }
     tally.hold("many states", if short { &[] } else { &NEEDED_OF_MANY });
 }

@@ -4,7 +4,7 @@
 use dispatch_tests::desk::{self, Answer};
 use dispatch_tests::gen::{self, possible, Call, Caller, Rng, CALLS};
 use dispatch_tests::lent::Values;
-use dispatch_tests::literal::{encode, with_head, Light, Motion, Site, State, Step, Sweep, HEAD_LEN, MAX_MARGIN, MAX_SWEEPS, SWEEP_LEN};
+use dispatch_tests::literal::{encode, with_head, Centre, Light, Motion, Site, State, Step, Sweep, HEAD_LEN, MAX_MARGIN, MAX_SWEEPS, SWEEP_LEN};
 use dispatch_tests::plain_board::PlainBoard;
 use dispatch_tests::{literal_desk, run};
 use std::collections::BTreeSet;
@@ -26,7 +26,7 @@ fn ring(h: usize, c: usize, s: usize, motions: usize) -> Site {
         }
         Motion { from: from as u16, to: to as u16, d: 1, sweeps }
     };
-    Site { h, c, margin: 0, states, motions: (0..motions).map(motion).collect() }
+    Site { h, c, margin: 0, states, motions: (0..motions).map(motion).collect(), centres: vec![] }
 }
 
 /// Gives a motion another span, and so many sweeps: those that it needs, then of the last cell, up to the motion's end.
@@ -50,6 +50,12 @@ fn filled(mut site: Site, len: usize) -> Site {
     }
     assert_eq!(encode(&site).len(), len);
     site
+}
+
+/// The site with so many centres, no two of them alike, from one end of what two bytes can say to the other.
+fn drawn(site: Site, centres: usize) -> Site {
+    let centre = |k: usize| Centre { x: (k * 65_535 / centres.max(2)) as u16, y: 65_535 - k as u16 };
+    Site { centres: (0..centres).map(centre).collect(), ..site }
 }
 
 /// A small hall with a margin.
@@ -134,6 +140,23 @@ fn sizes() -> Vec<(&'static str, Site, u8)> {
         ("65,536 bytes", filled(ring(12, 4, 5, 4_000), 65_536), 0),
         // An even number of states and fields of the right lengths can't have one byte too many.
         ("65,538 bytes", filled(ring(12, 4, 6, 4_000), 65_538), 1),
+        ("C 1 and a centre", drawn(ring(12, 1, 5, 9), 1), 0),
+        ("C 1 and two centres", drawn(ring(12, 1, 5, 9), 2), 4),
+        ("C 4 and 3 centres", drawn(ring(12, 4, 5, 9), 3), 4),
+        ("C 4 and 4 centres", drawn(ring(12, 4, 5, 9), 4), 0),
+        ("C 4 and 5 centres", drawn(ring(12, 4, 5, 9), 5), 4),
+        ("C 257 and a centre", drawn(ring(12, 257, 5, 9), 1), 4),
+        ("C 1,000 and 999 centres", drawn(ring(12, 1_000, 5, 9), 999), 4),
+        ("C 1,000 and 1,000 centres", drawn(ring(12, 1_000, 5, 9), 1_000), 0),
+        ("C 1,000 and 1,001 centres", drawn(ring(12, 1_000, 5, 9), 1_001), 4),
+        ("C 1,001 and 1,001 centres", drawn(ring(12, 1_001, 5, 9), 1_001), 3),
+        ("no motions and 4 centres", drawn(ring(12, 4, 5, 0), 4), 0),
+        ("4,000 motions and 4 centres", drawn(ring(12, 4, 5, 4_000), 4), 0),
+        ("4,001 motions and 4 centres", drawn(ring(12, 4, 5, 4_001), 4), 4),
+        ("65,536 bytes and 1,000 centres", filled(drawn(ring(12, 1_000, 5, 3_000), 1_000), 65_536), 0),
+        ("65,536 bytes and 4 centres", filled(drawn(ring(12, 4, 5, 4_000), 4), 65_536), 0),
+        // With an odd number of centres it can.
+        ("65,537 bytes and 3 centres", filled(drawn(ring(12, 3, 5, 4_000), 3), 65_537), 1),
     ]
 }
 
@@ -230,7 +253,7 @@ impl Hall<'_> {
 /// What the plain board says to a call, if it is one of 'Lists of calls' of docs/FORMATS.md.
 fn model_answer(model: &mut PlainBoard, call: &Call) -> Option<(Answer, Vec<u8>)> {
     Some(match *call {
-        Call::Open | Call::Interval { .. } => return None,
+        Call::Open | Call::Interval { .. } | Call::Draw { .. } => return None,
         Call::Route { tug, start, tick, goal, dwell, out, work } => model.route(tug, start, tick, goal, dwell, out, work),
         Call::Audit { ref light } => (model.audit(light), vec![]),
         Call::Post { ref light } => (model.post(light), vec![]),
@@ -250,16 +273,17 @@ fn close(holder: u8, cell: usize, first: usize, last: usize) -> Call {
 }
 
 /// Each call once. The site may be a refused one.
-fn every_call(site: &Site) -> [Call; 7] {
+fn every_call(site: &Site) -> [Call; 8] {
     let light = Light { edition: 0, tug: 7, start: 0, tick: 0, goal: 0, arrival: 0, dwell: 0, steps: vec![] }.encode();
     [
         Call::Open,
         Call::Interval { cell: 0, out: site.h + 2 },
         route(site, 7, 0, 0, 0, 0),
         Call::Audit { light: light.clone() },
-        Call::Post { light },
+        Call::Post { light: light.clone() },
         close(200, 0, 0, 0),
         Call::Withdraw { holder: 7 },
+        Call::Draw { light, step: 0, frame: 0 },
     ]
 }
 
@@ -326,10 +350,23 @@ impl Hall<'_> {
         if answer.number == 0 {
             let read = Light::read(&light).unwrap();
             self.moves.extend(read.steps.iter().filter_map(|step| if let Step::Move(k) = step { Some(*k) } else { None }));
+            self.draws(&light, read.steps.len());
             for call in [Call::Audit { light: light.clone() }, Call::Post { light }, Call::Withdraw { holder: read.tug }] {
                 assert_eq!(self.number(call), 0, "{}: a granted light", self.name);
             }
         }
+    }
+
+    /// A light is drawn at its first steps, its last one and behind it, at the first frames and the last ones and past these. Gives its numbers.
+    fn draws(&mut self, light: &[u8], steps: usize) -> BTreeSet<u8> {
+        let mut numbers = BTreeSet::new();
+        let last = steps.saturating_sub(1);
+        for (step, frame) in [(0, 0), (1, 16), (last, 1), (last, 15), (steps, 16), (65_535, 0), (0, 17), (last, 255)] {
+            let number = self.number(Call::Draw { light: light.to_vec(), step: step as u16, frame });
+            assert!(number != 0 || (frame <= 16 && !self.site.centres.is_empty()), "{}: {number} for step {step}, frame {frame}", self.name);
+            numbers.insert(number);
+        }
+        numbers
     }
 
     /// Every light is audited and posted, and its tug withdrawn again.
@@ -341,6 +378,16 @@ impl Hall<'_> {
             assert_eq!(self.number(Call::Post { light: bytes.clone() }), number);
             let withdrawn = self.number(Call::Withdraw { holder: light.tug });
             assert_eq!(withdrawn == 0, number == 0);
+            // A draw does not ask for the tug, and not what the plan is; all else is as an audit has it.
+            let tug = (1..=199).contains(&light.tug);
+            let drawn = self.draws(&bytes, light.steps.len());
+            let wanted = match number {
+                8 | 10 => [number].into(),
+                _ if tug && self.site.centres.is_empty() => [20].into(),
+                _ if tug => [0, 20].into(),
+                _ => drawn.clone(),
+            };
+            assert_eq!(drawn, wanted, "{}: draws of {light:?}", self.name);
             if light.steps.len() > 1_000 {
                 assert_eq!(number, 8, "{}: a light of {} bytes", self.name, bytes.len());
             }
@@ -398,11 +445,11 @@ impl Hall<'_> {
         assert_eq!(self.number(Call::Interval { cell: c, out: 0 }), 10);
     }
 
-    /// Every call on a board one byte too short and one byte too long.
+    /// Every call with a board on one that is a byte too short and a byte too long.
     fn board_lengths(&mut self) {
         let board = self.board.clone();
         for len in [0, 4, board.len() - 1, board.len() + 1] {
-            for call in every_call(self.site) {
+            for call in every_call(self.site).into_iter().filter(|call| !matches!(call, Call::Draw { .. })) {
                 self.board.resize(len, 0);
                 assert_eq!(self.number(call), 7, "{}: a board of {len} bytes", self.name);
             }
@@ -433,13 +480,18 @@ impl Hall<'_> {
                 let call = caller.any(&mut self.rng, &self.board);
                 self.call(&call);
             }
+            for _ in 0..4 {
+                let draw = caller.draw(&mut self.rng, &self.board);
+                self.call(&draw);
+            }
         }
     }
 }
 
-/// Fails if a test has not met every number of each call but those of files and board lengths.
-fn all_met(met: &Met) {
-    for pair in possible().into_iter().filter(|pair| !(1..=7).contains(&pair.1)) {
+/// Fails if a test has not met every number of each call but those of files and board lengths, and a draw's 0 on a site without centres.
+fn all_met(met: &Met, centres: bool) {
+    let drawn = (7, 0);
+    for pair in possible().into_iter().filter(|pair| !(1..=7).contains(&pair.1) && (centres || *pair != drawn)) {
         assert!(met.contains(&pair), "no {} answers {}", CALLS[pair.0], pair.1);
     }
 }
@@ -461,7 +513,7 @@ fn each_limit() {
         assert!(!last_needed || hall.moves.contains(&(site.motions.len() as u16 - 1)), "{name}: no route takes the last motion");
         met.extend(hall.met);
     }
-    all_met(&met);
+    all_met(&met, true);
 }
 
 /// Every margin that a byte can name.
@@ -516,42 +568,42 @@ fn any_boards_at_each_limit() {
         hall.any_boards(20, 8);
         met.extend(hall.met);
     }
-    all_met(&met);
+    all_met(&met, true);
 }
 
-/// As many cells, states and motions as a site may have, 1,000 ticks and the largest margin. All motions of a ring of so many states would take too many
-/// bytes, so those behind the first round stay within a cell. Some motions have the longest span and the most sweeps, the last one too.
+/// As many cells as a site may have, 1,000 ticks and the largest margin. All motions of a ring of so many states would take too many bytes, so those behind
+/// the first round stay within a cell. Some motions have the longest span and the most sweeps, the last one too.
 #[cfg(not(feature = "standin"))]
-fn largest(s: usize, len: usize) -> Site {
+fn largest(s: usize, len: usize, motions: usize, centres: usize) -> Site {
     const CELLS: usize = 1_000;
-    let mut site = Site { margin: MAX_MARGIN, ..ring(1_000, CELLS, s, s) };
+    let mut site = drawn(Site { margin: MAX_MARGIN, ..ring(1_000, CELLS, s, s) }, centres);
     let shared = s - 1 - CELLS;
-    for k in 0..4_000 - s {
+    for k in 0..motions - s {
         let (low, cell) = (k / 2 % shared, (k / 2 % shared) as u16);
         let (from, to) = if k % 2 == 0 { (low, low + CELLS) } else { (low + CELLS, low) };
         let d = 1 + (k / (2 * shared)) as u8;
         site.motions.push(Motion { from: from as u16, to: to as u16, d, sweeps: vec![Sweep { cell, a: 0, b: d }] });
     }
     need_last(&mut site);
-    for k in (s..4_000).step_by(97).chain([3_999]) {
+    for k in (s..motions).step_by(97).chain([motions - 1]) {
         reshape(&mut site, k, 255, MAX_SWEEPS);
     }
     filled(site, len)
 }
 
-/// A site of 1,280 states can't have 65,536 bytes, as its head, states and motions leave two bytes more than a multiple of 4; one of 1,279 can. The simple
-/// desk takes long here, and reads a site as the literal reading does.
+/// A site of 1,280 states can't have 65,536 bytes, as its head, states and motions leave two bytes more than a multiple of 4; one of 1,279 can. With a centre
+/// for each cell it has fewer motions. The simple desk takes long here, and reads a site as the literal reading does.
 #[test]
 #[cfg(not(feature = "standin"))]
 fn all_limits_at_once() {
-    for (s, len) in [(1_280, 65_534), (1_279, 65_536)] {
-        let site = largest(s, len);
-        let name = format!("{s} states and {len} bytes");
+    for (s, len, motions, centres) in [(1_280, 65_534, 4_000, 0), (1_279, 65_536, 4_000, 0), (1_279, 65_536, 3_500, 1_000)] {
+        let site = largest(s, len, motions, centres);
+        let name = format!("{s} states, {len} bytes and {centres} centres");
         let mut hall = Hall::new(&name, &site);
         hall.tour();
-        assert!(hall.moves.contains(&3_999), "{name}: no route takes the last motion");
+        assert!(hall.moves.contains(&(motions as u16 - 1)), "{name}: no route takes the last motion");
         hall.any_boards(12, 8);
-        all_met(&hall.met);
+        all_met(&hall.met, centres > 0);
     }
 }
 

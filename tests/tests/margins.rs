@@ -2,7 +2,7 @@
 //! in which the desk searches. What each call answers for ticks just within the margin and just past it is worked out here from their distance.
 
 use dispatch_tests::desk::{self, Answer};
-use dispatch_tests::literal::{encode, Light, Motion, Site, State, Step, Sweep};
+use dispatch_tests::literal::{encode, Centre, Light, Motion, Site, State, Step, Sweep};
 
 const MARGINS: [usize; 4] = [0, 1, 2, 20];
 /// The largest one, and others next to borders. ./faults runs the simple desk, which is slow, for each of its faults.
@@ -13,11 +13,13 @@ const SPANS: [usize; 2] = [1, 130];
 const HOLDERS: [u8; 6] = [1, 9, 199, 200, 254, 255];
 const TUG: u8 = 7;
 
-/// Two cells with a standing state each, and a motion from the first state to the second, which uses the second cell all the time.
+/// Two cells with a standing state each, and a motion from the first state to the second, which uses the second cell all the time. With an even horizon it has
+/// centres, which change nothing.
 fn hall(h: usize, margin: usize, span: usize) -> Site {
     let states = [0, 1].map(|cell| State { cell, speed: 0 }).to_vec();
     let sweeps = vec![Sweep { cell: 0, a: 0, b: 0 }, Sweep { cell: 1, a: 0, b: span as u8 }];
-    Site { h, c: 2, margin, states, motions: vec![Motion { from: 0, to: 1, d: span as u8, sweeps }] }
+    let centres = if h % 2 == 0 { vec![Centre { x: 3, y: 4 }; 2] } else { vec![] };
+    Site { h, c: 2, margin, states, motions: vec![Motion { from: 0, to: 1, d: span as u8, sweeps }], centres }
 }
 
 /// A hall, a held tick, and a tick in question next to where the margin ends.

@@ -26,7 +26,7 @@ fn keep_the_rules(d: u8, sweeps: &[Sweep]) -> bool {
 fn number(d: u8, sweeps: &[Sweep]) -> u8 {
     let states = (0..CELLS).map(|cell| State { cell, speed: 0 }).collect();
     let motions = vec![Motion { from: 0, to: 1, d, sweeps: sweeps.to_vec() }];
-    let site = Site { h: 1, c: CELLS as usize, margin: 0, states, motions };
+    let site = Site { h: 1, c: CELLS as usize, margin: 0, states, motions, centres: vec![] };
     desk::open(&encode(&site), &mut vec![9; site.board_len()]).number
 }
 

@@ -240,7 +240,7 @@ fn dwell_above_the_limit() {
 /// One cell and H 1,000: the longest dwell there is, and its high byte.
 #[test]
 fn longest_dwell() {
-    let site = Site { h: 1_000, c: 1, margin: 0, states: vec![State { cell: 0, speed: 0 }], motions: vec![] };
+    let site = Site { h: 1_000, c: 1, margin: 0, states: vec![State { cell: 0, speed: 0 }], motions: vec![], centres: vec![] };
     let file = encode(&site);
     let mut board = vec![0; 4 + 1_001];
     let (answer, light) = route_on(&site, &board, 0, 0, 0, 1_000);
@@ -323,7 +323,7 @@ fn motion(from: u16, to: u16, sweeps: [(u16, u8, u8); 2]) -> Motion {
 /// Two cells with a standing state each, and a motion of span 1 either way: M0 from cell 0 to cell 1, M1 back.
 fn to_and_fro(h: usize) -> Site {
     let states = vec![State { cell: 0, speed: 0 }, State { cell: 1, speed: 0 }];
-    Site { h, c: 2, margin: 0, states, motions: vec![motion(0, 1, [(0, 0, 1), (1, 1, 1)]), motion(1, 0, [(1, 0, 1), (0, 1, 1)])] }
+    Site { h, c: 2, margin: 0, states, motions: vec![motion(0, 1, [(0, 0, 1), (1, 1, 1)]), motion(1, 0, [(1, 0, 1), (0, 1, 1)])], centres: vec![] }
 }
 
 /// The tug stands at its goal, cell 1, which is closed at 2: to unload for two ticks it leaves and comes back, 3 to 5.

@@ -23,7 +23,7 @@
 //! # Ok::<(), Refusal>(())
 //! ```
 
-use crate::Word;
+use crate::{Drawn, Word};
 
 // As include/dispatch.h declares them.
 unsafe extern "C" {
@@ -49,6 +49,7 @@ unsafe extern "C" {
     fn dispatch_close(site: *const u8, site_len: usize, board: *mut u8, board_len: usize, holder: u8, cell: u16, first: u16, last: u16) -> u64;
     fn dispatch_withdraw(site: *const u8, site_len: usize, board: *mut u8, board_len: usize, holder: u8) -> u64;
     fn dispatch_travel(distance: u32) -> u64;
+    fn dispatch_draw(site: *const u8, site_len: usize, light: *const u8, light_len: usize, step: u16, frame: u8) -> Drawn;
 }
 
 // SAFETY, of each call below: the exported functions ask nothing of their arguments but that areas have their lengths, are aligned, and do not
@@ -120,4 +121,10 @@ pub fn withdraw(site: &[u8], board: &mut [u8], holder: u8) -> Word {
 #[must_use = "a call may be refused"]
 pub fn travel(distance: u32) -> Word {
     Word(unsafe { dispatch_travel(distance) })
+}
+
+/// Draws one step of a light, counted from 0, at a frame from 0 to [`LAST_FRAME`](crate::LAST_FRAME). No board is lent, and nothing is written.
+#[must_use = "a call may be refused"]
+pub fn draw(site: &[u8], light: &[u8], step: u16, frame: u8) -> Drawn {
+    unsafe { dispatch_draw(site.as_ptr(), site.len(), light.as_ptr(), light.len(), step, frame) }
 }

@@ -1,6 +1,6 @@
 //! A site with its board.
 
-use crate::{calls, Refusal, Sizes};
+use crate::{calls, Picture, Refusal, Sizes};
 use std::ops::RangeInclusive;
 
 /// A site with its board of bookings, and areas of the right sizes. All calls but [`travel`](crate::travel) are made through it.
@@ -147,5 +147,36 @@ impl Desk {
     /// Takes all bookings of a tug or closure, 1 to 254, off the board. The edition rises by 1.
     pub fn withdraw(&mut self, holder: u8) -> Result<(), Refusal> {
         calls::withdraw(&self.site, &mut self.board, holder).accepted().map(drop)
+    }
+
+    /// Draws one step of a light, counted from 0, at a frame from 0 to [`LAST_FRAME`](crate::LAST_FRAME). The site has to have the centres of its
+    /// cells; all other calls answer the same with them and without. The light need not be posted, and the board does not matter.
+    ///
+    /// A motion rolls from the centre of its from state's cell to that of its to state's, by a sixteenth of the difference a frame. A wait stands
+    /// where the motion before it ends, or at the centre of the start state's cell. A step past the last is off the floor.
+    ///
+    /// ```
+    /// use dispatch::{Desk, Picture, Place, Refusal, Trip};
+    ///
+    /// // Two cells, a motion from the first to the second in 2 ticks, and the centres, 1,000 millimetres apart.
+    /// let site = [
+    ///     1, 0, 7, 0, 20, 0, 2, 0, 2, 0, 2, 0, 3, 0, 0, 0, 2, 0, 3, 0, 1, 0, 3, 0, 13, 0, 0, 0, 1, 2, 0, 0, 0, 1, 0, 1, 1, 2, //
+    ///     4, 0, 4, 0, 0, 0, 250, // cell 0: x 0, y 250
+    ///     4, 0, 4, 3, 232, 0, 250, // cell 1: x 1,000, y 250
+    /// ];
+    /// let mut desk = Desk::open(&site)?;
+    /// desk.close(200, 1, 0..=4)?;
+    /// let light = desk.route(Trip { tug: 7, start: 0, tick: 0, goal: 1, dwell: 3 })?.light;
+    ///
+    /// // Step 0 is a wait, step 1 the motion, and there is no step 2.
+    /// assert_eq!(desk.draw(&light, 0, 9)?, Picture::Standing(Place { x: 0.0, y: 250.0 }));
+    /// assert_eq!(desk.draw(&light, 1, 1)?, Picture::Rolling(Place { x: 62.5, y: 250.0 }, 1.0 / 16.0));
+    /// assert_eq!(desk.draw(&light, 1, 16)?, Picture::Rolling(Place { x: 1000.0, y: 250.0 }, 1.0));
+    /// assert_eq!(desk.draw(&light, 2, 0)?, Picture::OffFloor);
+    /// assert_eq!(desk.draw(&light, 0, 17), Err(Refusal::NoPicture));
+    /// # Ok::<(), Refusal>(())
+    /// ```
+    pub fn draw(&self, light: &[u8], step: u16, frame: u8) -> Result<Picture, Refusal> {
+        calls::draw(&self.site, light, step, frame).picture()
     }
 }

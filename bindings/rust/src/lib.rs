@@ -38,12 +38,14 @@
 pub mod calls;
 mod desk;
 mod light;
+mod picture;
 mod refusal;
 mod sizes;
 mod word;
 
 pub use desk::{Desk, Granted, Trip};
 pub use light::{steps, Step};
+pub use picture::{Drawn, Picture, Place, LAST_FRAME};
 pub use refusal::Refusal;
 pub use sizes::Sizes;
 pub use word::Word;
@@ -52,7 +54,7 @@ pub use word::Word;
 /// which 16 KiB are plenty; threads of the standard library have 2 MiB unless they are told otherwise.
 pub const STACK_ROUTE: usize = 1_000_000;
 
-/// The most bytes of stack that audit and post take in the archive, also to refuse.
+/// The most bytes of stack that audit, post and draw take in the archive, also to refuse.
 pub const STACK_LIGHT: usize = 66_000;
 
 /// The most bytes of stack that each of the other calls takes in the archive.

@@ -36,7 +36,7 @@ refusals! {
     SiteTooLong = 1, "the site file has more than 65,536 bytes";
     SiteCut = 2, "a field of the site file runs past the file's end";
     SiteHead = 3, "the site file does not begin with a head of 7 bytes with H, C, S and m in range";
-    SiteLayout = 4, "the site file's states or motions have a wrong tag, length, order or number";
+    SiteLayout = 4, "the site file's states, motions or centres have a wrong tag, length, order or number";
     StateCell = 5, "a state of the site names a cell that the hall does not have";
     Motion = 6, "a motion of the site breaks a rule on its values or sweeps";
     BoardLength = 7, "the board does not have the length that the site needs";
@@ -52,6 +52,7 @@ refusals! {
     Conflict = 17, "a wanted cell is held or near a tug, or the light is no valid plan to its goal and arrival";
     NoPlan = 18, "no valid plan exists";
     TooFar = 19, "the distance is above 511 decimetres";
+    NoPicture = 20, "the frame is above 16, or the site has no centres";
 }
 
 impl Refusal {

@@ -3,8 +3,9 @@
 use crate::Refusal;
 
 /// What a call of [`calls`](crate::calls) returns: its number in the low 8 bits, and above them the values of an accepted call. All values of
-/// a refused call are 0.
+/// a refused call are 0. [`draw`](crate::calls::draw) returns it as a field of [`Drawn`](crate::Drawn).
 #[derive(Clone, Copy, PartialEq, Eq, Hash, Debug)]
+#[repr(transparent)]
 pub struct Word(pub u64);
 
 impl Word {
@@ -51,5 +52,11 @@ impl Word {
     /// The tick at which the route of [`route`](crate::calls::route) arrives.
     pub const fn arrival(self) -> u16 {
         (self.0 >> 32) as u16
+    }
+
+    /// The kind of picture that [`draw`](crate::calls::draw) has drawn: 0 off the floor, 1 standing, 2 rolling. [`Drawn::picture`](crate::Drawn::picture)
+    /// reads it.
+    pub const fn kind(self) -> u8 {
+        (self.0 >> 8) as u8
     }
 }

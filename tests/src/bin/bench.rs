@@ -73,7 +73,7 @@ fn grid(rng: &mut Rng) -> Site {
         motions.swap(i, rng.below(i + 1));
     }
     motions.truncate(MOTIONS);
-    Site { h: H, c: 100, margin: 0, states, motions }
+    Site { h: H, c: 100, margin: 0, states, motions, centres: vec![] }
 }
 
 fn scattered(rng: &mut Rng, c: usize, span: (usize, usize), sweeps: usize) -> Site {
@@ -86,7 +86,7 @@ fn scattered(rng: &mut Rng, c: usize, span: (usize, usize), sweeps: usize) -> Si
             motion_between(rng, c, &states, from, to, d, n)
         })
         .collect();
-    Site { h: H, c, margin: 0, states, motions }
+    Site { h: H, c, margin: 0, states, motions, centres: vec![] }
 }
 
 /// Each motion leaves its cell offset by offset and takes the next one so; both are used at one offset.
@@ -103,7 +103,7 @@ fn adjoining(rng: &mut Rng) -> Site {
             Motion { from: from as u16, to: to as u16, d: SPAN, sweeps: leaves.chain(takes).rev().collect() }
         })
         .collect();
-    Site { h: H, c: STATES, margin: 0, states, motions }
+    Site { h: H, c: STATES, margin: 0, states, motions, centres: vec![] }
 }
 
 fn corridor(rng: &mut Rng) -> Site {
@@ -117,7 +117,7 @@ fn corridor(rng: &mut Rng) -> Site {
             motion_between(rng, 100, &states, from, to, d, n)
         })
         .collect();
-    Site { h: H, c: 100, margin: 0, states, motions }
+    Site { h: H, c: 100, margin: 0, states, motions, centres: vec![] }
 }
 
 /// The floor of a hall, and its states and motions.
@@ -168,7 +168,7 @@ impl Scale {
             motion_between(rng, cells, &states, from, to, d, 2)
         });
         let motions = motions.collect();
-        Site { h: H, c: cells, margin: 0, states, motions }
+        Site { h: H, c: cells, margin: 0, states, motions, centres: vec![] }
     }
 }
 
