@@ -10,7 +10,7 @@ use Rattle.meaning.specs.Plan.{Step, wait, move}
 use Rattle.meaning.specs.Light.{Light}
 use Rattle.meaning.specs.Pictures.{Place, Picture, off-floor, standing-at, rolling-at}
 
--- the number at the cell of a state in the list of centres
+-- the centre of the cell of a state, as the list has it in cell order
 abbrev pub CentreOf : Site → ℕ → Centre
 CentreOf site s = getD (site .centres) (stateAt site s .cell) noCentre
 
