@@ -28,6 +28,8 @@ module _ (file board out words : List ℕ) where
   -- the refusals do not read the areas
   board_number : (q : PublicCall) → BoardCall q → lowest (refusals file (lends board out words) q) ≡ lowest (refusals file (on_board board) q)
   unfolding refusals
+  board_number (interval cell) b = elim b [ ]
+  board_number (listed (route tug start goal dwell)) b = elim b [ ]
   board_number opening b = refl
   board_number (listed (audit light)) b = refl
   board_number (listed (post light)) b = refl
@@ -38,6 +40,8 @@ module _ (file board out words : List ℕ) where
       → accepted_done site (lends board out words) q
       ≡ record { number = (accepted_done site (on_board board) q).number; values = []; lent = lends (accepted_done site (on_board board) q).lent.board out words }
   unfolding accepted_done changed
+  board_accepted site (interval cell) b = elim b [ ]
+  board_accepted site (listed (route tug start goal dwell)) b = elim b [ ]
   board_accepted site opening b = refl
   board_accepted site (listed (audit light)) b = refl
   board_accepted site (listed (post light)) b = refl
@@ -48,6 +52,8 @@ module _ (file board out words : List ℕ) where
   not_18 q b l n e z = only_routes file l q (meant_number file l q ∙ e ∙ z) (λ tug a goal dwell same. no_route q b tug a goal dwell same)
     where
       no_route : (k : PublicCall) → BoardCall k → (tug : ℕ) (a : Node) (goal dwell : ℕ) → k ≡ listed (route tug a goal dwell) → ⊥
+      no_route (interval cell) b tug a goal dwell w = elim b [ ]
+      no_route (listed (route _ start _ _)) b tug a goal dwell w = elim b [ ]
       no_route opening b tug a goal dwell w = let y : ◌≡◌ {A = ℕ} 0 1 = cc in omega arith
       no_route (listed (audit light)) b tug a goal dwell w = let y : ◌≡◌ {A = ℕ} 0 1 = cc in omega arith
       no_route (listed (post light)) b tug a goal dwell w = let y : ◌≡◌ {A = ℕ} 0 1 = cc in omega arith

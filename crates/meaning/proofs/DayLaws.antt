@@ -160,6 +160,7 @@ calls light f c bytes e =
 
 pub all_calls : (light : List ℕ) (f : Field) (c : Call) → ScriptField light c f → call_of light f ≡ some c
 unfolding call_of
+all_calls light f (audit _) e = elim e [ ]
 all_calls light f (close h cell first last) (c, lo, hi, e) = rw (e, u16_back cell c, u16_back first lo, u16_back last hi) refl
 all_calls light f (withdraw h) e = rw e refl
 all_calls light f (route tug a goal dwell) (s, t, g, w, e) = rw (e, u16_back a.state s, u16_back a.tick t, u16_back goal g, u16_back dwell w) refl

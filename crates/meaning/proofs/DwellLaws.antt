@@ -23,8 +23,9 @@ wait_unloads site f b c n (waits pos stands free_there in_time l) = record { doc
 -- a cell that a sweep uses at an offset is free then, where each swept cell is
 free_used : (f : Free) (start c j : ℕ) {ws : List Sweep} → Each (λ (w : Sweep). FreeFromTo f w.cell (start + w.first) (start + w.last)) ws → Uses ws c j
     → f c (start + j) ≡ true
-free_used f start c j (x, xs) (here (same, lo, hi)) = subst (λ (d : ℕ). f d (start + j) ≡ true) same (x (start + j) (omega arith) (omega arith))
-free_used f start c j (x, xs) (there s) = free_used f start c j xs s
+free_used f start c j {ws = []} _ x5 = elim x5 [ ]
+free_used f start c j {ws = w ∷ ws} (x, xs) (here (same, lo, hi)) = subst (λ (d : ℕ). f d (start + j) ≡ true) same (x (start + j) (omega arith) (omega arith))
+free_used f start c j {ws = w ∷ ws} (x, xs) (there s) = free_used f start c j xs s
 
 -- ---- where valid steps end
 

@@ -226,7 +226,7 @@ pictures_right = record {
   shown = λ site l laid i k hk. all_shown site l k hk laid i;
   only_shown = λ site l i k p hk s. only_shown site l k hk i p s;
   first_frame = first_frame;
-  last_frame_lem = last_frame_lem;
+  last_frame = last_frame_lem;
   drawn = draw_accepted;
   refused_by = draw_refused;
 }

@@ -133,15 +133,18 @@ module _ (site : Site) where
 -- ---- no two holders have the same cell on the same tick
 
 has_taken : (es : List Entry) (h c t : ℕ) → Has es h c t → taken es c t ≡ true
+has_taken [] h c t x' = elim x' [ ]
 has_taken (e ∷ es) h c t (here (same, k)) = any_here (has_here c t) e es k
 has_taken (e ∷ es) h c t (there s) = any_there (has_here c t) e es (has_taken es h c t s)
 
 has_tug : (es : List Entry) (k c t : ℕ) → is_tug k ≡ true → Has es k c t → tug_taken es c t ≡ true
+has_tug [] k c t tug x'' = elim x'' [ ]
 has_tug (e ∷ es) k c t tug (here (same, p)) =
     any_here (λ (x : Entry). every (is_tug x.holder ∷ has_pair x.pairs c t ∷ [])) e es (every_cons _ _ (ap is_tug same ∙ tug) (every_cons _ _ p every_nil))
 has_tug (e ∷ es) k c t tug (there s) = any_there (λ (x : Entry). every (is_tug x.holder ∷ has_pair x.pairs c t ∷ [])) e es (has_tug es k c t tug s)
 
 pub no_two_in : (site : Site) (es : List Entry) → Clean site es → (h k c t : ℕ) → Has es h c t → Has es k c t → h ≡ k
+no_two_in site [] _ h k c t x4 _ = elim x4 [ ]
 no_two_in site (e ∷ es) (entered, clean) h k c t (here (same, p)) (here (same_too, q)) = sym same ∙ same_too
 no_two_in site (e ∷ es) (entered, clean) h k c t (here (same, p)) (there s) = absurd (true≢false (sym (has_taken es k c t s) ∙ entered.apart c t p))
 no_two_in site (e ∷ es) (entered, clean) h k c t (there s) (here (same, p)) = absurd (true≢false (sym (has_taken es h c t s) ∙ entered.apart c t p))
@@ -149,6 +152,7 @@ no_two_in site (e ∷ es) (entered, clean) h k c t (there s) (there r) = no_two_
 
 -- and each of them is a holder
 pub known_in : (site : Site) (es : List Entry) → Clean site es → (h c t : ℕ) → Has es h c t → (1 ≤ h) × (h ≤ last_closure)
+known_in site [] _ h c t x3 = elim x3 [ ]
 known_in site (e ∷ es) (entered, clean) h c t (here (same, p)) = holders_right.holders h (ap is_holder (sym same) ∙ entered.known)
 known_in site (e ∷ es) (entered, clean) h c t (there s) = known_in site es clean h c t s
 
@@ -168,6 +172,7 @@ pair_in site (q ∷ ps) c t inside h =
     (λ e k. pair_in site ps c t (all_tail test q ps inside) k)
 
 pub has_in : (site : Site) (es : List Entry) (h c t : ℕ) → Clean site es → Has es h c t → (c < site.cells) × (t ≤ site.horizon)
+has_in site [] h c t _ x3 = elim x3 [ ]
 has_in site (e ∷ es) h c t (entered, clean) (here (same, p)) = pair_in site e.pairs c t entered.inside p
 has_in site (e ∷ es) h c t (entered, clean) (there s) = has_in site es h c t clean s
 
@@ -176,6 +181,7 @@ near_back : (site : Site) (t u : ℕ) → Within site t u → Within site u t
 near_back site t u (lo, hi) = (hi, lo)
 
 not_near : (site : Site) (es : List Entry) → Clean site es → (h k c t u : ℕ) → is_tug h ≡ true → (h ≡ k → ⊥) → Has es h c t → Has es k c u → Within site t u → ⊥
+not_near site [] _ h k c t u tug other x7 _ near = elim x7 [ ]
 not_near site (e ∷ es) (entered, clean) h k c t u tug other (here (same, p)) (here (same_too, q)) near = other (sym same ∙ same_too)
 not_near site (e ∷ es) (entered, clean) h k c t u tug other (here (same, p)) (there s) near =
     entered.spaced k c t u p s (inl (ap is_tug same ∙ tug)) near

@@ -156,6 +156,7 @@ in_sweeps (w ∷ ws) t c x h =
 
 has_sweeps : (ws : List Sweep) (t c x : ℕ) → Some (λ (w : Sweep). (c ≡ w.cell) × (t + w.first ≤ x) × (x ≤ t + w.last)) ws
     → has_pair (swept_pairs ws t) c x ≡ true
+has_sweeps [] t c x x3 = elim x3 [ ]
 has_sweeps (w ∷ ws) t c x (here (same, lo, hi)) =
     has_left (run_to w.cell (t + w.first) (t + w.last)) (swept_pairs ws t) c x (has_run_to w.cell (t + w.first) (t + w.last) c x same lo hi)
 has_sweeps (w ∷ ws) t c x (there s) =

@@ -151,6 +151,7 @@ taken_by (x ∷ es) c t e =
     (λ q k. let (h, held) = taken_by es c t k in (h, there held))
 
 by_taken : (es : List Entry) (h c t : ℕ) → InEntry es h c t → taken es c t ≡ true
+by_taken [] h c t x' = elim x' [ ]
 by_taken (x ∷ es) h c t (here (same, q)) = any_here (λ (y : Entry). has_pair y.pairs c t) x es ((tells_pair x.pairs c t).back q)
 by_taken (x ∷ es) h c t (there s) = any_there (λ (y : Entry). has_pair y.pairs c t) x es (by_taken es h c t s)
 
@@ -168,6 +169,7 @@ taken_by_tug (x ∷ es) c t e =
     (λ q k. let (h, tug, held) = taken_by_tug es c t k in (h, tug, there held))
 
 by_tug_taken : (es : List Entry) (h c t : ℕ) → Tug h → InEntry es h c t → tug_taken es c t ≡ true
+by_tug_taken [] h c t tug x'' = elim x'' [ ]
 by_tug_taken (x ∷ es) h c t tug (here (same, q)) =
     any_here (of_tug c t) x es (every_cons _ _ (ap is_tug same ∙ (tells_tug h).back tug) (every_cons _ _ ((tells_pair x.pairs c t).back q) every_nil))
 by_tug_taken (x ∷ es) h c t tug (there s) = any_there (of_tug c t) x es (by_tug_taken es h c t tug s)
