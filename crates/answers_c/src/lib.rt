@@ -1,4 +1,6 @@
 // The word that each answer is for C, from which a caller reads the number and the values back.
+#![tactic(auto)]
+
 ghost use Rattle.std.specs.Prelude.{◌≡◌};
 ghost use Rattle.answers.specs.Answers.{number_of};
 ghost use Rattle.answers_c.specs.Words.{counted_word, granted_word};

@@ -1,4 +1,6 @@
 // The board as a whole: its length, the edition, who stands, and what is written.
+#![tactic(auto)]
+
 ghost use Rattle.std.specs.Prelude.{◌≡◌, cond, ◌&&◌, ◌+◌, ◌*◌, ◌<◌, ◌≤◌, eqb, length, replicate};
 ghost use Rattle.meaning.specs.Limits.{horizon_limit, cell_limit, header, last_edition};
 ghost use Rattle.meaning.specs.Board.{is_holder, edition, with_edition, next_edition, stands, clear};

@@ -1,4 +1,6 @@
 // The safe intervals of a cell: runs of free ticks that can't be lengthened on either side.
+#![tactic(auto)]
+
 ghost use Rattle.std.specs.Prelude.{◌≡◌, ◌+◌, ◌*◌, ◌-◌, ◌<◌, ◌≤◌, length, set};
 ghost use Rattle.meaning.specs.Limits.{horizon_limit};
 ghost use Rattle.meaning.specs.Site.{Site};

@@ -1,10 +1,12 @@
 // How a byte of the board sorts: free, a tug's, a closure's or unknown.
+#![tactic(auto)]
+
 ghost use Rattle.std.specs.Prelude.{◌≡◌, eqb};
 ghost use Rattle.meaning.specs.Board.{sort_of, is_tug, is_closure, is_holder};
 ghost use Rattle.board_sorts.specs.Sorts.{sort_case};
 
 // Who holds a byte's pair.
-#[derive(Drop)]
+#[derive(Clone, Copy)]
 pub enum Sort {
     Free,
     Tug,

@@ -1,4 +1,6 @@
 // The ticks of a cell on the board: which are free, which a closure may take, and what is written over them.
+#![tactic(auto)]
+
 ghost use Rattle.std.specs.Prelude.{◌≡◌, ◌+◌, ◌-◌, ◌≤◌, ◌<◌, min, length};
 ghost use Rattle.meaning.specs.Site.{Site};
 ghost use Rattle.meaning.specs.Board.{free, closable, mark, run_to};

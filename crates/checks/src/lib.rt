@@ -1,4 +1,6 @@
 // The checks that calls share: 1 to 7, which every call makes first, and 15. Checks look only; the work of a call comes after all of them.
+#![tactic(auto)]
+
 ghost use Rattle.std.specs.Prelude.{◌≡◌, ◌≤◌, eqb, length};
 ghost use Rattle.meaning.specs.Limits.{header, last_edition};
 ghost use Rattle.meaning.specs.Answers.{lowest};

@@ -1,4 +1,6 @@
 // The later checks and the work of the calls of the board alone: interval, close and withdraw.
+#![tactic(auto)]
+
 ghost use Rattle.std.specs.Prelude.{◌≡◌, ℕ, ◌≤◌, ◌<◌, List, length};
 ghost use Rattle.meaning.specs.Limits.{horizon_limit, last_edition, header};
 ghost use Rattle.meaning.specs.Answers.{lowest};

@@ -1,4 +1,6 @@
 // The later checks of a route call up to 14. What is behind them is the search.
+#![tactic(auto)]
+
 ghost use Rattle.std.specs.Prelude.{◌≡◌, ◌≤◌, length};
 ghost use Rattle.meaning.specs.Limits.{horizon_limit, state_limit};
 ghost use Rattle.meaning.specs.Answers.{lowest};

@@ -1,6 +1,8 @@
 // The day program: the site from site.bin, an opened board, and a script from standard input, one line for each of its fields, or one for
 // an empty script. What opening and a turn come to is proved in `day_opening` and `day_turns`; here what was read is handed to them, and what
 // they wrote is printed.
+#![tactic(auto)]
+
 ghost use Rattle.std.specs.Prelude.{◌≤◌, ◌≡◌, length};
 ghost use Rattle.meaning.specs.Limits.{header, day_area};
 ghost use Rattle.day_calls.specs.Performed.{Areas};

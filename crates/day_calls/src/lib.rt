@@ -1,4 +1,6 @@
 // A call of the script performed on the day's board.
+#![tactic(auto)]
+
 ghost use Rattle.std.specs.Prelude.{◌≤◌, length, take};
 ghost use Rattle.meaning.specs.Limits.{day_area};
 ghost use Rattle.day_orders.specs.Orders.{call_by};

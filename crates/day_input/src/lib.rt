@@ -1,4 +1,6 @@
 // What the day program reads: the site file, and the bytes of a turn from standard input.
+#![tactic(auto)]
+
 ghost use Rattle.std.specs.Prelude.{◌+◌, ◌≤◌, length};
 ghost use Rattle.io.specs.Counts.{IsPrefixLen};
 ghost use Rattle.meaning.specs.Limits.{field_header, route_size};

@@ -1,4 +1,6 @@
 // The text of a line that the day program prints, three numbers in decimal digits, and what it prints at the script's end.
+#![tactic(auto)]
+
 ghost use Rattle.std.specs.Prelude.{◌≡◌, [], ◌∷◌, ◌++◌, ◌+◌, ◌≤◌, ◌<◌, length, take};
 ghost use Rattle.io.specs.Counts.{IsPrefixLen};
 ghost use Rattle.meaning.specs.Day.{decimal, text_of, texts, end_lines};

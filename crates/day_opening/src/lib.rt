@@ -1,4 +1,6 @@
 // The opening of the day's board, in the part of its area that the site needs, or the line of its refusal.
+#![tactic(auto)]
+
 ghost use Rattle.std.specs.Prelude.{◌≡◌, ℕ, ◌≤◌, min, length};
 ghost use Rattle.meaning.specs.Limits.{day_area};
 ghost use Rattle.meaning.specs.Answers.{lowest};
@@ -11,7 +13,7 @@ use dispatch::Answer;
 use site::Check;
 
 // What opening the board came to: its length, or that of the refusal's line.
-#[derive(Drop)]
+#[derive(Clone, Copy)]
 pub enum Opening {
     Opened(usize),
     Refused(usize),

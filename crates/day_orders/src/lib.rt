@@ -1,4 +1,6 @@
 // The script's fields as calls: how much is read of a field, and which call it asks for.
+#![tactic(auto)]
+
 ghost use Rattle.std.specs.Prelude.{◌≡◌, ◌&&◌, ◌≤◌, eqb};
 ghost use Rattle.meaning.specs.Limits.{route_size};
 ghost use Rattle.meaning.specs.Fields.{fields};
@@ -28,7 +30,7 @@ const POST_SIZE: usize = 0;
 pub const PIECE: usize = FIELD_HEADER + ROUTE_SIZE;
 
 // A call of the script; the light of a post is the last granted one.
-#[derive(Drop)]
+#[derive(Clone, Copy)]
 pub enum Order {
     Close(u8, u16, u16, u16),
     Withdraw(u8),
@@ -37,7 +39,7 @@ pub enum Order {
 }
 
 // What the script has next: a call, something that is none, or nothing more.
-#[derive(Drop)]
+#[derive(Clone, Copy)]
 pub enum Entry {
     Call(Order),
     Bad,

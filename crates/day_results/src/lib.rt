@@ -1,4 +1,6 @@
 // What a call and a turn of the day come to. Nothing here calls the desk, so that this is proved without it.
+#![tactic(auto)]
+
 ghost use Rattle.std.specs.Prelude.{◌≡◌, ◌≤◌};
 ghost use Rattle.meaning.specs.Limits.{day_area};
 ghost use Rattle.day_results.specs.Results.{changed_result, routed_result, last_turn};
@@ -6,7 +8,7 @@ ghost use Rattle.day_results.specs.Results.{changed_result, routed_result, last_
 use answers::{Answer, Granted};
 
 // A call's number, the arrival of a granted route, and the length of the last granted light.
-#[derive(Drop)]
+#[derive(Clone, Copy)]
 pub struct CallResult {
     pub number: u8,
     pub arrival: u16,
@@ -51,7 +53,7 @@ pub fn routed(g: Granted, last: usize) -> CallResult
 }
 
 // What a turn came to: whether the program goes on, the length of the last granted light, and that of the text.
-#[derive(Drop)]
+#[derive(Clone, Copy)]
 pub struct Outcome {
     pub going: bool,
     pub light: usize,

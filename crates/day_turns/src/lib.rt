@@ -1,4 +1,6 @@
 // The day program's turns: the first field of the script performed, and its line.
+#![tactic(auto)]
+
 ghost use Rattle.std.specs.Prelude.{◌≤◌, length, take};
 ghost use Rattle.meaning.specs.Limits.{header};
 ghost use Rattle.meaning.specs.Fields.{fields};

@@ -1,4 +1,6 @@
 // The public calls of the board as a whole and of a cell. Each makes the checks 1 to 7, then its own, which only look, and then its work.
+#![tactic(auto)]
+
 ghost use Rattle.std.specs.Prelude.{◌≡◌, []};
 ghost use Rattle.meaning.specs.Calls.{opening, interval, meant, lends, on_board};
 ghost use Rattle.answers.specs.Answers.{answer_of, counted_of};

@@ -1,4 +1,6 @@
 // The public calls that take a light. Both make the checks 1 to 7, then those of a light, which only look; a post then does its work.
+#![tactic(auto)]
+
 ghost use Rattle.std.specs.Prelude.{◌≡◌};
 ghost use Rattle.meaning.specs.Calls.{listed, audit, post, meant, on_board};
 ghost use Rattle.answers.specs.Answers.{answer_of};

@@ -1,4 +1,6 @@
 // The public call that grants a light. It makes the checks 1 to 7, then its own up to 14, which only look, and then searches.
+#![tactic(auto)]
+
 ghost use Rattle.std.specs.Prelude.{◌≡◌, ◌≤◌, length, replicate};
 ghost use Rattle.meaning.specs.Calls.{listed, route, meant, lends, over};
 ghost use Rattle.meaning.specs.Plan.{node};

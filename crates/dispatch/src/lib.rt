@@ -1,4 +1,6 @@
 // The public calls under one name. proofs/Demands.antt has the demands of them.
+#![tactic(auto)]
+
 pub use answers::{Answer, Counted, Granted};
 pub use desk_board::{interval, open};
 pub use desk_holder::{close, withdraw};

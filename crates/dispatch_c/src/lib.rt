@@ -1,5 +1,7 @@
 // The public calls for C: each answers one word, from which a caller reads the number and the values back. Draw answers its picture's
 // floats beside the word.
+#![tactic(auto)]
+
 ghost use Rattle.std.specs.Prelude.{◌≡◌, []};
 ghost use Rattle.meaning.specs.Calls.{opening, interval, listed, route, audit, post, close, withdraw, meant, lends, on_board};
 ghost use Rattle.meaning.specs.Plan.{node};

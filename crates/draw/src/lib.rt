@@ -1,4 +1,6 @@
 // The moving picture of a light: the picture of one of its steps at a frame, and the public call with its checks. No board is looked at.
+#![tactic(auto)]
+
 ghost use Rattle.std.specs.Prelude.{◌≡◌, true, ℕ, ◌≤◌, ◌<◌, length};
 ghost use Rattle.meaning.specs.Answers.{lowest};
 ghost use Rattle.meaning.specs.Site.{Site, site_of, motion_at};
@@ -23,7 +25,7 @@ use site_read::Centre;
 const LAST_FRAME: u8 = 16;
 
 // The answer of draw.
-#[derive(Drop)]
+#[derive(Clone, Copy)]
 pub enum Drawn {
     Shown(Picture),
     Refused(u8),

@@ -1,4 +1,6 @@
 // What draw answers for C: a word, from which a caller reads the number and the kind of picture back, and the picture's floats.
+#![tactic(auto)]
+
 ghost use Rattle.std.specs.Prelude.{◌≡◌};
 ghost use Rattle.draw_c.specs.Words.{picture_word, drawn_word};
 
@@ -12,7 +14,7 @@ const ROLLING: u64 = 512;
 
 // The word, the place and the share of the motion; each is 0 where there is none.
 #[repr(C)]
-#[derive(Drop)]
+#[derive(Clone, Copy)]
 pub struct DrawnWord {
     pub word: u64,
     pub x: f32,

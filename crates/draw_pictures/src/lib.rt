@@ -1,4 +1,6 @@
 // Pictures of a tug in 32-bit floats: off the floor, at the centre of a cell, or on its way from one centre to another.
+#![tactic(auto)]
+
 ghost use Rattle.std.specs.Prelude.{◌≡◌, ◌≤◌};
 ghost use Rattle.meaning.specs.Pictures.{standing_at, rolling_at, place_on, between, place_between};
 ghost use Rattle.draw_pictures.specs.Floats.{sixteenths, centre_of, shown};
@@ -6,14 +8,14 @@ ghost use Rattle.draw_pictures.specs.Floats.{sixteenths, centre_of, shown};
 use site_read::Centre;
 
 // A place, in millimetres.
-#[derive(Drop)]
+#[derive(Clone, Copy)]
 pub struct Place {
     pub x: f32,
     pub y: f32,
 }
 
 // What is drawn of a tug: nothing, where it stands, or where it rolls with its share of the motion.
-#[derive(Drop)]
+#[derive(Clone, Copy)]
 pub enum Picture {
     OffFloor,
     Standing(Place),

@@ -1,4 +1,6 @@
 // Bytes as fields: a one-byte tag, a two-byte length, a value. Site, light and script are read through this crate.
+#![tactic(auto)]
+
 ghost use Rattle.std.specs.Prelude.{◌≡◌, true, ◌+◌, ◌<◌, ◌≤◌, length, get_or};
 ghost use Rattle.meaning.specs.Basics.{u16_at};
 ghost use Rattle.meaning.specs.Fields.{fields, complete, listed};
@@ -9,14 +11,14 @@ ghost use Rattle.fields.specs.Places.{fields_at, Next, Whole};
 pub const FIELD_HEADER: usize = 3;
 
 // The reader: a file's bytes with a position.
-#[derive(Drop)]
+#[derive(Clone, Copy)]
 pub struct Reader<'a> {
     pub bytes: &'a [u8],
     pub at: usize,
 }
 
 // A field's tag, where its value starts, the value's length, and where the next field starts.
-#[derive(Drop)]
+#[derive(Clone, Copy)]
 pub struct Header {
     pub tag: u8,
     pub start: usize,
@@ -25,7 +27,7 @@ pub struct Header {
 }
 
 // What stands at a position: a field, one that runs past the end, or nothing.
-#[derive(Drop)]
+#[derive(Clone, Copy)]
 pub enum Item {
     Field(Header),
     Cut,

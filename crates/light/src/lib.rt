@@ -1,4 +1,6 @@
 // The light's format, for reading and for writing: its tags, its sizes in bytes, and the numbers of its head.
+#![tactic(auto)]
+
 ghost use Rattle.std.specs.Prelude.{◌≡◌, ◌<◌};
 ghost use Rattle.light.specs.Sizes.{light_length};
 
@@ -24,7 +26,7 @@ pub const STEP_FIELD: usize = FIELD_HEADER + STEP_SIZE;
 pub const LIGHT_LIMIT: usize = 5018;
 
 // The numbers of a light's head.
-#[derive(Drop)]
+#[derive(Clone, Copy)]
 pub struct Head {
     pub edition: u32,
     pub tug: u8,

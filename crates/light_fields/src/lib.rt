@@ -1,4 +1,6 @@
 // The fields of a light, written into an area: its head, and a step's.
+#![tactic(auto)]
+
 ghost use Rattle.std.specs.Prelude.{◌≡◌, [], ◌+◌, ◌/◌, ◌%◌, ◌≤◌, length};
 ghost use Rattle.meaning.specs.Basics.{put16};
 ghost use Rattle.meaning.specs.Fields.{field_bytes};

@@ -1,4 +1,6 @@
 // Reading a light: whether bytes are one, and its head.
+#![tactic(auto)]
+
 ghost use Rattle.std.specs.Prelude.{◌≡◌, true, ◌&&◌, ◌+◌, ◌≤◌, eqb, length};
 ghost use Rattle.meaning.specs.Limits.{field_header, light_tag, light_head_size};
 ghost use Rattle.meaning.specs.Light.{is_light, light_of};

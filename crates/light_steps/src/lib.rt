@@ -1,4 +1,6 @@
 // A light's steps: the step at a place, and their layout. The fields are read through the crate `fields`.
+#![tactic(auto)]
+
 ghost use Rattle.std.specs.Prelude.{◌≡◌, true, false, ◌+◌, ◌≤◌, length};
 ghost use Rattle.meaning.specs.Basics.{u16_at};
 ghost use Rattle.light_steps.specs.Steps.{laid_from, step_in, step_at};
@@ -6,7 +8,7 @@ ghost use Rattle.light_steps.specs.Steps.{laid_from, step_in, step_at};
 use fields::{Header, Item};
 
 // What stands at a place: a wait's span or a motion's number, each with where the next step starts; the end; or no step.
-#[derive(Drop)]
+#[derive(Clone, Copy)]
 pub enum Step {
     Wait(u16, usize),
     Move(u16, usize),

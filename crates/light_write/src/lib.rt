@@ -1,4 +1,6 @@
 // Writing a light: the steps of a plan that is a stack of codes, behind its head.
+#![tactic(auto)]
+
 ghost use Rattle.std.specs.Prelude.{◌≡◌, ◌+◌, ◌≤◌, length};
 ghost use Rattle.meaning.specs.Fields.{field_bytes};
 ghost use Rattle.meaning.specs.Light.{step_field, encode};

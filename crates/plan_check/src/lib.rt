@@ -1,4 +1,6 @@
 // A light's plan: does the walk of its steps hold on the board, can the tug unload where it ends, and may the numbers be named.
+#![tactic(auto)]
+
 ghost use Rattle.std.specs.Prelude.{◌≡◌, true, [], ◌∷◌, leb, length};
 ghost use Rattle.std.proofs.Math.Option.{some};
 ghost use Rattle.meaning.specs.Basics.{every, all};
@@ -21,7 +23,7 @@ use site::{Sizes, Trip};
 use time::{Span, Tick};
 
 // How a walk ends: at a node, or at a step that is not allowed.
-#[derive(Drop)]
+#[derive(Clone, Copy)]
 enum WalkEnd {
     At(Node),
     NotAllowed,

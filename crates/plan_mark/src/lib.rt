@@ -1,4 +1,6 @@
 // Marking: writes a tug's number over the pairs that a light's plan holds.
+#![tactic(auto)]
+
 ghost use Rattle.std.specs.Prelude.{◌≡◌, true, ◌+◌, ◌≤◌, length};
 ghost use Rattle.meaning.specs.Site.{site_of};
 ghost use Rattle.meaning.specs.Board.{free, mark, run_to};

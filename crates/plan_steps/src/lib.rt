@@ -1,4 +1,6 @@
 // Steps of a plan: is a wait, a motion or the unloading allowed on the board, and where does a step lead.
+#![tactic(auto)]
+
 ghost use Rattle.std.specs.Prelude.{◌≡◌, ℕ, ◌+◌, ◌<◌, ◌≤◌, length};
 ghost use Rattle.meaning.specs.Site.{site_of, motion_at};
 ghost use Rattle.meaning.specs.Board.{free};
@@ -15,14 +17,14 @@ use site_sweeps::Sweep;
 use time::{Span, Tick};
 
 // A state and a tick.
-#[derive(Drop)]
+#[derive(Clone, Copy)]
 pub struct Node {
     pub state: usize,
     pub tick: Tick,
 }
 
 // Ticks of a cell, from the first to the last, both included.
-#[derive(Drop)]
+#[derive(Clone, Copy)]
 pub struct Ticks {
     pub first: usize,
     pub last: usize,

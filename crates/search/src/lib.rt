@@ -1,4 +1,6 @@
 // The search of a route call: the light of the plan with the least arrival from which the tug can unload.
+#![tactic(auto)]
+
 ghost use Rattle.std.specs.Prelude.{◌≡◌, ◌≤◌, length};
 ghost use Rattle.meaning.specs.Site.{site_of};
 ghost use Rattle.meaning.specs.Calls.{light_room};
@@ -11,7 +13,7 @@ use search_plan::Traced;
 use site::{Sizes, Trip};
 
 // The number of bytes of the light and the arrival, or that no plan exists.
-#[derive(Drop)]
+#[derive(Clone, Copy)]
 pub enum Found {
     Route(u16, u16),
     Nothing,

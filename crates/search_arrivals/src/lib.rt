@@ -1,4 +1,6 @@
 // The ticks of a block at which a motion may end: each of its sweeps narrows them down.
+#![tactic(auto)]
+
 ghost use Rattle.std.specs.Prelude.{◌≡◌, Bool, ℕ, suc, ◌+◌, ◌-◌, ◌*◌, ◌≤◌, ◌<◌, length};
 ghost use Rattle.meaning.specs.Limits.{cell_limit};
 ghost use Rattle.search_sizes.specs.Sizes.{block_words, block_ticks, window_words, window_ticks, block_start, span_limit};

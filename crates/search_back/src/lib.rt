@@ -1,4 +1,6 @@
 // The back pointer of a pair of state and tick, from the reached pairs and the board.
+#![tactic(auto)]
+
 ghost use Rattle.std.specs.Prelude.{◌≡◌, false, ℕ, ◌+◌, ◌*◌, ◌-◌, ◌≤◌, ◌<◌, length};
 ghost use Rattle.meaning.specs.Site.{site_of};
 ghost use Rattle.meaning.specs.Board.{free};

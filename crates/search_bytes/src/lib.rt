@@ -1,4 +1,6 @@
 // The board's bytes as words of bits, set where the byte is 0.
+#![tactic(auto)]
+
 ghost use Rattle.std.specs.Prelude.{◌≡◌, ◌+◌, ◌≤◌, ◌<◌, length};
 ghost use Rattle.search_bytes.specs.Words.{free_bit, free_word, ZeroFrom, word_of_bytes, held_of, exchanged, turned_of};
 

@@ -1,4 +1,6 @@
 // The ticks at which a tug can unload at its goal, and the first of them at which the goal is reached.
+#![tactic(auto)]
+
 ghost use Rattle.std.specs.Prelude.{◌≡◌, cond, false, ℕ, ◌+◌, ◌*◌, ◌≤◌, ◌<◌, ltb, length, get_or};
 ghost use Rattle.meaning.specs.Site.{Site, cell_of};
 ghost use Rattle.meaning.specs.Board.{free};

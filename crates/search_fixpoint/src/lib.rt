@@ -1,5 +1,7 @@
 // The closure of the reached pairs under the waits and motions that end in a block of ticks, state by state until none is new: only states
 // whose sets have grown, and only their own motions.
+#![tactic(auto)]
+
 ghost use Rattle.std.specs.Prelude.{◌≡◌, Bool, true, false, ℕ, ◌+◌, ◌*◌, ◌≤◌, ◌<◌, length};
 ghost use Rattle.search_sizes.specs.Sizes.{block_words, blocks, row_words};
 ghost use Rattle.search_ticks.specs.Rows.{has};

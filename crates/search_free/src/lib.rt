@@ -1,4 +1,6 @@
 // The free ticks of each cell in a block as rows of bits, from the board's bytes.
+#![tactic(auto)]
+
 ghost use Rattle.std.specs.Prelude.{◌≡◌, ℕ, ◌+◌, ◌*◌, ◌≤◌, ◌<◌, min, ltb, length};
 ghost use Rattle.meaning.specs.Limits.{horizon_limit, cell_limit, margin_limit, header};
 ghost use Rattle.search_sizes.specs.Sizes.{block_ticks, blocks, window_words, window_ticks, ticks};

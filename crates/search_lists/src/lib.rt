@@ -1,4 +1,6 @@
 // Lists of the motions by the state that they start from, or by the one that they lead to.
+#![tactic(auto)]
+
 ghost use Rattle.std.specs.Prelude.{◌≡◌, ◌+◌, ◌≤◌, ◌<◌, length, get_or};
 ghost use Rattle.search_site.specs.Arrays.{Motions, Leads};
 ghost use Rattle.search_lists.specs.Lists.{end_at, FirstAre, Listed};

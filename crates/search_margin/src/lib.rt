@@ -1,4 +1,6 @@
 // Sets of ticks widened by a margin, as words of bits.
+#![tactic(auto)]
+
 ghost use Rattle.std.specs.Prelude.{◌≡◌, ℕ, ◌+◌, ◌-◌, ◌*◌, ◌≤◌, ◌<◌};
 ghost use Rattle.search_ticks.specs.Bits.{bit};
 ghost use Rattle.search_margin.specs.Widening.{any_from, bit_of_two, bit_of_three};

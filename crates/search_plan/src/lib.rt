@@ -1,4 +1,6 @@
 // The plan with the least arrival from which the tug can unload, on an accepted site, from all parts of the search.
+#![tactic(auto)]
+
 ghost use Rattle.std.specs.Prelude.{◌≡◌, false, ℕ, ◌*◌, ◌≤◌, length};
 ghost use Rattle.search_sizes.specs.Sizes.{small_rows, small_motions, small_states, middle_rows, middle_motions, middle_states, wide_rows, wide_motions, wide_states};
 ghost use Rattle.search_ticks.specs.Rows.{at};
@@ -14,7 +16,7 @@ use search_sizes::{
 use site::{Sizes, Trip};
 
 // A plan's number of steps and its arrival, or that there is none.
-#[derive(Drop)]
+#[derive(Clone, Copy)]
 pub enum Traced {
     Steps(usize, usize),
     Missing,

@@ -1,4 +1,6 @@
 // The search over a site in arrays, block by block up to the one in which the tug arrives.
+#![tactic(auto)]
+
 ghost use Rattle.std.specs.Prelude.{◌≡◌, true, false, ℕ, ◌+◌, ◌*◌, ◌≤◌, ◌<◌, min, max, length};
 ghost use Rattle.meaning.specs.Site.{site_of, cell_of};
 ghost use Rattle.meaning.specs.Board.{free};

@@ -1,4 +1,6 @@
 // The runs of free ticks: which ticks of a block end as many free ticks of a cell as the runs of a table have.
+#![tactic(auto)]
+
 ghost use Rattle.std.specs.Prelude.{◌≡◌, Bool, ℕ, ◌+◌, ◌*◌, ◌≤◌, ◌<◌, length};
 ghost use Rattle.search_sizes.specs.Sizes.{block_ticks, window_words, window_ticks, table_limit};
 ghost use Rattle.search_ticks.specs.Rows.{at, Put};

@@ -1,4 +1,6 @@
 // The site file in arrays of numbers, as the search takes it: two numbers a state, five a motion. The sweeps stay in the file.
+#![tactic(auto)]
+
 ghost use Rattle.std.specs.Prelude.{◌≡◌, ℕ, ◌+◌, ◌*◌, ◌≤◌, ◌<◌, length};
 ghost use Rattle.meaning.specs.Answers.{accepted};
 ghost use Rattle.meaning.specs.Site.{site_of, read_site};

@@ -1,4 +1,5 @@
 // The sizes of the search's tables, by what they count: those of a site file give all others.
+#![tactic(auto)]
 
 // Words of 64 ticks in a block, its ticks, and the blocks from tick 0 on that have every tick.
 pub const BLOCK_WORDS: usize = 4;

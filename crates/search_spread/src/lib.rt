@@ -1,4 +1,6 @@
 // The waits and the motions of one state in a block of ticks: what they set, and which states' sets grow.
+#![tactic(auto)]
+
 ghost use Rattle.std.specs.Prelude.{◌≡◌, ◌+◌, ◌*◌, ◌≤◌, ◌<◌, length};
 ghost use Rattle.search_sizes.specs.Sizes.{block_words, blocks, row_words};
 ghost use Rattle.search_site.specs.Arrays.{States, Motions, CellsBelow, Leads};

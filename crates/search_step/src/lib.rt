@@ -1,4 +1,6 @@
 // What one wait and one motion set of the pairs of state and tick, in a block of ticks.
+#![tactic(auto)]
+
 ghost use Rattle.std.specs.Prelude.{◌≡◌, Bool, ℕ, ◌*◌, ◌≤◌, ◌<◌, List, length};
 ghost use Rattle.search_ticks.specs.Rows.{has};
 ghost use Rattle.search_sizes.specs.Sizes.{block_words, blocks, row_words, window_words};

@@ -1,4 +1,6 @@
 // Sets of ticks as rows of words of 64 bits, of which a search changes one block of 256 ticks at a time.
+#![tactic(auto)]
+
 ghost use Rattle.std.specs.Prelude.{◌≡◌, ℕ, ◌+◌, ◌-◌, ◌*◌, ◌<◌, ◌≤◌, true, false, length};
 ghost use Rattle.search_sizes.specs.Sizes.{block_words, block_ticks, blocks, window_words, window_ticks, row_words, ticks, block_start, span_limit};
 ghost use Rattle.search_ticks.specs.Bits.{window_of, fill_of};

@@ -1,4 +1,6 @@
 // The walk back from the goal: the steps of the route, as a stack of codes.
+#![tactic(auto)]
+
 ghost use Rattle.std.specs.Prelude.{◌≡◌, ◌∷◌, ◌+◌, ◌*◌, ◌≤◌, ◌<◌, length};
 ghost use Rattle.meaning.specs.Limits.{horizon_limit};
 ghost use Rattle.meaning.specs.Plan.{move};

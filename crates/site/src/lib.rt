@@ -1,4 +1,6 @@
 // The site file: the check of any file, and what an accepted one says of its sizes.
+#![tactic(auto)]
+
 ghost use Rattle.std.specs.Prelude.{◌≡◌, ◌≤◌, length};
 ghost use Rattle.meaning.specs.Plan.{node};
 ghost use Rattle.meaning.specs.Calls.{trip_named};
@@ -12,7 +14,7 @@ use site_layout::Head;
 pub const FILE_LIMIT: usize = 65536;
 
 // What an accepted file says of its site: H, C, the margin, the counts, and where the motions start.
-#[derive(Drop)]
+#[derive(Clone, Copy)]
 pub struct Sizes {
     pub horizon: usize,
     pub cells: usize,
@@ -27,7 +29,7 @@ pub struct Sizes {
 const DWELL_LIMIT: u16 = 1000;
 
 // What a route is asked for: from a state at a tick to a goal state, and how long the tug unloads there.
-#[derive(Drop)]
+#[derive(Clone, Copy)]
 pub struct Trip {
     pub start: u16,
     pub tick: u16,
@@ -52,7 +54,7 @@ pub fn trip_named(sizes: Sizes, trip: Trip) -> bool
 }
 
 // What checks answer: all passed, with the sizes of the site, or the lowest number that applies.
-#[derive(Drop)]
+#[derive(Clone, Copy)]
 pub enum Check {
     Passed(Sizes),
     Refused(u8),

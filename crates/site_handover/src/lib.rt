@@ -1,4 +1,6 @@
 // The handovers of one motion: at each offset below its span some cell is used there and at the next one; and all rules on its sweeps.
+#![tactic(auto)]
+
 ghost use Rattle.std.specs.Prelude.{◌≡◌, false, ◌+◌, ◌*◌, ◌<◌, ◌≤◌, length};
 ghost use Rattle.meaning.specs.Limits.{sweep_size};
 ghost use Rattle.meaning.specs.Basics.{all_below};

@@ -1,4 +1,6 @@
 // The layout of a site file: refusals 3 and 4, and the values of its head.
+#![tactic(auto)]
+
 ghost use Rattle.std.specs.Prelude.{◌≡◌, true, ◌+◌, ◌≤◌, length};
 ghost use Rattle.meaning.specs.Limits.{head_size};
 ghost use Rattle.meaning.specs.Basics.{within};
@@ -151,7 +153,7 @@ fn is_centre(file: &[u8], at: usize) -> bool
 }
 
 // How many motions come first, and where the field behind them starts.
-#[derive(Drop)]
+#[derive(Clone, Copy)]
 pub struct Leading {
     pub count: usize,
     pub next: usize,
@@ -225,7 +227,7 @@ pub fn layout_good(file: &[u8], start: usize, count: usize, cells: usize) -> boo
 }
 
 // What a good head says: H, C, S, the margin, and where the states start.
-#[derive(Drop)]
+#[derive(Clone, Copy)]
 pub struct Head {
     pub horizon: usize,
     pub cells: usize,

@@ -1,4 +1,6 @@
 // The states, the motions and the centres of a site file that is laid out well, read by place and by number.
+#![tactic(auto)]
+
 ghost use Rattle.std.specs.Prelude.{◌≡◌, true, ◌<◌, ◌≤◌, length};
 ghost use Rattle.meaning.specs.Fields.{complete};
 ghost use Rattle.meaning.specs.Site.{site_of, state_at, motion_at, centre_at, motion_of, is_motion};
@@ -48,7 +50,7 @@ pub fn state_speed(file: &[u8], i: usize) -> u8
 }
 
 // A motion: its numbers, and the place and the count of its sweeps.
-#[derive(Drop)]
+#[derive(Clone, Copy)]
 pub struct Motion {
     pub from: usize,
     pub to: usize,
@@ -114,7 +116,7 @@ pub fn find_motion(file: &[u8], start: usize, k: usize) -> Motion
 }
 
 // A cell's centre, in millimetres.
-#[derive(Drop)]
+#[derive(Clone, Copy)]
 pub struct Centre {
     pub x: u16,
     pub y: u16,

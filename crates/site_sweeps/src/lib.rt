@@ -1,4 +1,6 @@
 // The sweeps of one motion in a site file: when runs of ticks meet, what sweeps use, and that they keep to the cells and the span.
+#![tactic(auto)]
+
 ghost use Rattle.std.specs.Prelude.{◌≡◌, true, ◌+◌, ◌*◌, ◌<◌, ◌≤◌, length};
 ghost use Rattle.meaning.specs.Limits.{sweep_size};
 ghost use Rattle.meaning.specs.Basics.{all};
@@ -10,7 +12,7 @@ ghost use Rattle.site_sweeps.specs.Places.{sweep_at, sweeps_at, sweep_of, SweepI
 pub const SWEEP_SIZE: usize = 4;
 
 // A sweep: its cell, and the first and the last offset at which it uses it.
-#[derive(Drop)]
+#[derive(Clone, Copy)]
 pub struct Sweep {
     pub cell: usize,
     pub first: u8,

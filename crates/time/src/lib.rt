@@ -1,11 +1,13 @@
 // Moments and spans. A moment plus a span is a moment; nothing adds two moments.
+#![tactic(auto)]
+
 ghost use Rattle.std.specs.Prelude.{◌≡◌, ◌+◌, ◌<◌, leb};
 
 // A moment, and a number of ticks.
-#[derive(Drop)]
+#[derive(Clone, Copy)]
 pub struct Tick(pub u32);
 
-#[derive(Drop)]
+#[derive(Clone, Copy)]
 pub struct Span(pub u32);
 
 // The moment a span later.

@@ -1,4 +1,6 @@
 // Travel times: the table of the fewest ticks from rest to rest that cover a distance, and the call that reads it.
+#![tactic(auto)]
+
 ghost use Rattle.std.specs.Prelude.{◌≡◌, ◌≤◌};
 ghost use Rattle.meaning.specs.Limits.{last_distance};
 ghost use Rattle.travel_runs.specs.Entries.{fewest};

@@ -1,4 +1,6 @@
 // Computes the table of travel times and prints it: 512 lines, a number each, entry 0 first. `travel` carries these numbers.
+#![tactic(auto)]
+
 ghost use Rattle.std.specs.Prelude.{◌≡◌, ◌+◌, ◌≤◌, min};
 ghost use Rattle.meaning.specs.Limits.{last_distance};
 ghost use Rattle.travel_runs.specs.Entries.{top_speed, farthest, fewest};
