@@ -12,7 +12,7 @@ use site::Check;
 pub fn open(file: &[u8], board: &mut [u8]) -> Answer
     ensures value { result ≡ answer_of (meant file.now (on_board board.old) opening).number }
     ensures board_after { board.new ≡ (meant file.now (on_board board.old) opening).lent.board }
-    ensures file_value { file.now ≡ file.now }
+    ensures file_unchanged { file.exit.now ≡ file.entry.now }
 {
     let checked = checks::check_board(file, board);
     match checked {
@@ -28,8 +28,8 @@ pub fn open(file: &[u8], board: &mut [u8]) -> Answer
 pub fn interval(file: &[u8], board: &[u8], cell: u16, out: &mut [u16]) -> Counted
     ensures value { result ≡ counted_of (meant file.now (lends board.now out.old []) (interval cell)) }
     ensures out_after { out.new ≡ (meant file.now (lends board.now out.old []) (interval cell)).lent.out }
-    ensures file_value { file.now ≡ file.now }
-    ensures board_value { board.now ≡ board.now }
+    ensures file_unchanged { file.exit.now ≡ file.entry.now }
+    ensures board_unchanged { board.exit.now ≡ board.entry.now }
 {
     match checks::check_board(file, board) {
         Check::Passed(l) => {

@@ -12,7 +12,7 @@ use site::Check;
 pub fn close(file: &[u8], board: &mut [u8], holder: u8, cell: u16, first: u16, last: u16) -> Answer
     ensures value { result ≡ answer_of (meant file.now (on_board board.old) (listed (close holder cell first last))).number }
     ensures board_after { board.new ≡ (meant file.now (on_board board.old) (listed (close holder cell first last))).lent.board }
-    ensures file_value { file.now ≡ file.now }
+    ensures file_unchanged { file.exit.now ≡ file.entry.now }
 {
     match checks::check_board(file, board) {
         Check::Passed(l) => {
@@ -31,7 +31,7 @@ pub fn close(file: &[u8], board: &mut [u8], holder: u8, cell: u16, first: u16, l
 pub fn withdraw(file: &[u8], board: &mut [u8], holder: u8) -> Answer
     ensures value { result ≡ answer_of (meant file.now (on_board board.old) (listed (withdraw holder))).number }
     ensures board_after { board.new ≡ (meant file.now (on_board board.old) (listed (withdraw holder))).lent.board }
-    ensures file_value { file.now ≡ file.now }
+    ensures file_unchanged { file.exit.now ≡ file.entry.now }
 {
     match checks::check_board(file, board) {
         Check::Passed(_) => {

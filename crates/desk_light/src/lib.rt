@@ -11,9 +11,9 @@ use site::Check;
 // Answers as post would, and writes nothing.
 pub fn audit(file: &[u8], board: &[u8], light: &[u8]) -> Answer
     ensures value { result ≡ answer_of (meant file.now (on_board board.now) (listed (audit light.now))).number }
-    ensures file_value { file.now ≡ file.now }
-    ensures board_value { board.now ≡ board.now }
-    ensures light_value { light.now ≡ light.now }
+    ensures file_unchanged { file.exit.now ≡ file.entry.now }
+    ensures board_unchanged { board.exit.now ≡ board.entry.now }
+    ensures light_unchanged { light.exit.now ≡ light.entry.now }
 {
     match checks::check_board(file, board) {
         Check::Passed(l) => {
@@ -31,8 +31,8 @@ pub fn audit(file: &[u8], board: &[u8], light: &[u8]) -> Answer
 pub fn post(file: &[u8], board: &mut [u8], light: &[u8]) -> Answer
     ensures value { result ≡ answer_of (meant file.now (on_board board.old) (listed (post light.now))).number }
     ensures board_after { board.new ≡ (meant file.now (on_board board.old) (listed (post light.now))).lent.board }
-    ensures file_value { file.now ≡ file.now }
-    ensures light_value { light.now ≡ light.now }
+    ensures file_unchanged { file.exit.now ≡ file.entry.now }
+    ensures light_unchanged { light.exit.now ≡ light.entry.now }
 {
     match checks::check_board(file, board) {
         Check::Passed(l) => {

@@ -38,8 +38,8 @@ pub fn route(
     ensures value { result ≡ granted_of (meant file.now (lends board.now out.old work.old) (listed (route tug (node start tick) goal dwell))) }
     ensures out_after { out.new ≡ (meant file.now (lends board.now out.old work.old) (listed (route tug (node start tick) goal dwell))).lent.out }
     ensures work_after { work.new ≡ (meant file.now (lends board.now out.old work.old) (listed (route tug (node start tick) goal dwell))).lent.words }
-    ensures file_value { file.now ≡ file.now }
-    ensures board_value { board.now ≡ board.now }
+    ensures file_unchanged { file.exit.now ≡ file.entry.now }
+    ensures board_unchanged { board.exit.now ≡ board.entry.now }
 {
     match checks::check_board(file, board) {
         Check::Passed(l) => {

@@ -19,7 +19,7 @@ use draw_c::DrawnWord;
 pub extern "C" fn dispatch_open(file: &[u8], board: &mut [u8]) -> u64
     ensures value { result ≡ (meant file.now (on_board board.old) opening).number }
     ensures board_after { board.new ≡ (meant file.now (on_board board.old) opening).lent.board }
-    ensures file_value { file.now ≡ file.now }
+    ensures file_unchanged { file.exit.now ≡ file.entry.now }
 {
     answers_c::answer_word(dispatch::open(file, board))
 }
@@ -28,8 +28,8 @@ pub extern "C" fn dispatch_open(file: &[u8], board: &mut [u8]) -> u64
 pub extern "C" fn dispatch_interval(file: &[u8], board: &[u8], cell: u16, out: &mut [u16]) -> u64
     ensures value { result ≡ counted_word (counted_of (meant file.now (lends board.now out.old []) (interval cell))) }
     ensures out_after { out.new ≡ (meant file.now (lends board.now out.old []) (interval cell)).lent.out }
-    ensures file_value { file.now ≡ file.now }
-    ensures board_value { board.now ≡ board.now }
+    ensures file_unchanged { file.exit.now ≡ file.entry.now }
+    ensures board_unchanged { board.exit.now ≡ board.entry.now }
 {
     answers_c::counted_word(dispatch::interval(file, board, cell, out))
 }
@@ -49,8 +49,8 @@ pub extern "C" fn dispatch_route(
     ensures value { result ≡ granted_word (granted_of (meant file.now (lends board.now out.old work.old) (listed (route tug (node start tick) goal dwell)))) }
     ensures out_after { out.new ≡ (meant file.now (lends board.now out.old work.old) (listed (route tug (node start tick) goal dwell))).lent.out }
     ensures work_after { work.new ≡ (meant file.now (lends board.now out.old work.old) (listed (route tug (node start tick) goal dwell))).lent.words }
-    ensures file_value { file.now ≡ file.now }
-    ensures board_value { board.now ≡ board.now }
+    ensures file_unchanged { file.exit.now ≡ file.entry.now }
+    ensures board_unchanged { board.exit.now ≡ board.entry.now }
 {
     answers_c::granted_word(dispatch::route(file, board, tug, start, tick, goal, dwell, out, work))
 }
@@ -58,9 +58,9 @@ pub extern "C" fn dispatch_route(
 #[unsafe(no_mangle)]
 pub extern "C" fn dispatch_audit(file: &[u8], board: &[u8], light: &[u8]) -> u64
     ensures value { result ≡ (meant file.now (on_board board.now) (listed (audit light.now))).number }
-    ensures file_value { file.now ≡ file.now }
-    ensures board_value { board.now ≡ board.now }
-    ensures light_value { light.now ≡ light.now }
+    ensures file_unchanged { file.exit.now ≡ file.entry.now }
+    ensures board_unchanged { board.exit.now ≡ board.entry.now }
+    ensures light_unchanged { light.exit.now ≡ light.entry.now }
 {
     answers_c::answer_word(dispatch::audit(file, board, light))
 }
@@ -69,8 +69,8 @@ pub extern "C" fn dispatch_audit(file: &[u8], board: &[u8], light: &[u8]) -> u64
 pub extern "C" fn dispatch_post(file: &[u8], board: &mut [u8], light: &[u8]) -> u64
     ensures value { result ≡ (meant file.now (on_board board.old) (listed (post light.now))).number }
     ensures board_after { board.new ≡ (meant file.now (on_board board.old) (listed (post light.now))).lent.board }
-    ensures file_value { file.now ≡ file.now }
-    ensures light_value { light.now ≡ light.now }
+    ensures file_unchanged { file.exit.now ≡ file.entry.now }
+    ensures light_unchanged { light.exit.now ≡ light.entry.now }
 {
     answers_c::answer_word(dispatch::post(file, board, light))
 }
@@ -86,7 +86,7 @@ pub extern "C" fn dispatch_close(
 ) -> u64
     ensures value { result ≡ (meant file.now (on_board board.old) (listed (close holder cell first last))).number }
     ensures board_after { board.new ≡ (meant file.now (on_board board.old) (listed (close holder cell first last))).lent.board }
-    ensures file_value { file.now ≡ file.now }
+    ensures file_unchanged { file.exit.now ≡ file.entry.now }
 {
     answers_c::answer_word(dispatch::close(file, board, holder, cell, first, last))
 }
@@ -95,7 +95,7 @@ pub extern "C" fn dispatch_close(
 pub extern "C" fn dispatch_withdraw(file: &[u8], board: &mut [u8], holder: u8) -> u64
     ensures value { result ≡ (meant file.now (on_board board.old) (listed (withdraw holder))).number }
     ensures board_after { board.new ≡ (meant file.now (on_board board.old) (listed (withdraw holder))).lent.board }
-    ensures file_value { file.now ≡ file.now }
+    ensures file_unchanged { file.exit.now ≡ file.entry.now }
 {
     answers_c::answer_word(dispatch::withdraw(file, board, holder))
 }
@@ -110,8 +110,8 @@ pub extern "C" fn dispatch_travel(distance: u32) -> u64
 #[unsafe(no_mangle)]
 pub extern "C" fn dispatch_draw(file: &[u8], light: &[u8], step: u16, frame: u8) -> DrawnWord
     ensures value { result ≡ drawn_word (drawn_of (draw_meant file.now light.now step frame)) }
-    ensures file_value { file.now ≡ file.now }
-    ensures light_value { light.now ≡ light.now }
+    ensures file_unchanged { file.exit.now ≡ file.entry.now }
+    ensures light_unchanged { light.exit.now ≡ light.entry.now }
 {
     draw_c::drawn_word(draw::draw(file, light, step, frame))
 }

@@ -133,8 +133,8 @@ fn picture_refusal(l: Sizes, light: &[u8], k: u8) -> u8
 // What a screen shows of a light: the picture of a step, from 0 on, at frame `k`. It makes the checks 1 to 6, 8, 10 and 20, and no others.
 pub fn draw(file: &[u8], light: &[u8], step: u16, k: u8) -> Drawn
     ensures value { result ≡ drawn_of (draw_meant file.now light.now step k) }
-    ensures file_value { file.now ≡ file.now }
-    ensures light_value { light.now ≡ light.now }
+    ensures file_unchanged { file.exit.now ≡ file.entry.now }
+    ensures light_unchanged { light.exit.now ≡ light.entry.now }
 {
     match site::check_site(file) {
         Check::Passed(l) => {
