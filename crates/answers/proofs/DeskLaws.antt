@@ -91,4 +91,4 @@ module _ (desk : Desk) (exact : Exact desk) (file : List ℕ) (some : AllowsSome
 
   pub every_run : (board : List ℕ) (cs : List (Call × (List ℕ × List ℕ))) → Follows desk file board (turns file board cs)
   every_run board [] = tt
-  every_run board ((c, (out, words)) ∷ cs) = (refl, allows_meant (lends board out words) (listed c), every_run _ cs)
+  every_run board ((c, (out, words)) ∷ cs) = (refl, allows_meant (lends board out words) (listed c), every_run (meant file (lends board out words) (listed c)).lent.board cs)
