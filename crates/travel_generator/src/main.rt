@@ -5,7 +5,6 @@ ghost use Rattle.std.specs.Prelude.{◌≡◌, ◌+◌, ◌≤◌, min};
 ghost use Rattle.meaning.specs.Limits.{last_distance};
 ghost use Rattle.travel_runs.specs.Entries.{top_speed, farthest, fewest};
 
-use libc::STDOUT_FILENO;
 use travel_runs::{LAST_DISTANCE, SPEED_LIMIT};
 
 fn lesser(a: u32, b: u32) -> u32
@@ -52,13 +51,13 @@ fn fewest(d: u32) -> u32
 }
 
 // Prints a number and a line end; false if they could not be written.
-fn print_line(n: u32) -> bool {
-    io::print_decimal(STDOUT_FILENO, n as u64) && io::write_all(STDOUT_FILENO, b"\n")
+fn print_line(rt: &impl Print, n: u32) -> bool {
+    println!(rt; "{n}").is_ok()
 }
 
-fn main() {
+fn main(rt: HostRuntime) {
     let mut d = 0;
-    while d <= LAST_DISTANCE && print_line(fewest(d)) {
+    while d <= LAST_DISTANCE && print_line(&rt, fewest(d)) {
         d += 1;
     }
 }
