@@ -6,11 +6,11 @@ use native.Mathlib.Nat.{pow-succ', one-le-pow, pow-le-pow_right}
 use native.Mathlib.Numerals.{sub-one}
 use mathlib.Core.Path.{◌≡◌, sym, ap, ◌∙◌}
 use mathlib.Core.List.{List, [], ◌∷◌, ◌++◌, append_assoc}
-use lib.ListN.{length, take, length-append}
+use lib.ListN.{length, take, set, length-append}
 use lib.Seq.{length-take-le, take-length, take_at}
 use lib.Dec.{leb}
 use borrow.Author.Tests.{lt-ltb, le-ltb, leb-true, leb-false}
-use Rattle.io.specs.Digits.{hex_digit_ascii, last_digits, IsDigitCount}
+use Rattle.day_lines.specs.Digits.{hex_digit_ascii, last_digits, IsDigitCount}
 use Rattle.meaning.proofs.BasicsLaws.{decide}
 use Rattle.meaning.specs.Day.{decimal_by, decimal, text_of}
 
@@ -18,6 +18,13 @@ use Rattle.meaning.specs.Day.{decimal_by, decimal, text_of}
 
 glyph_decimal : (n : ℕ) → hex_digit_ascii (n % 10) ≡ 48 + n % 10
 glyph_decimal n = simp (lt-ltb (n % 10) 10 (omega arith))
+
+-- a number below 10 has one digit
+pub digit_alone : (digits : List ℕ) (n : ℕ) → 0 < length digits → n < 10 → take 1 (set digits 0 (48 + n)) ≡ hex_digit_ascii (n % 10) ∷ []
+digit_alone [] n room h = absurd (omega arith)
+digit_alone (d ∷ ds) n room h =
+    let same : n % 10 ≡ n = omega arith in
+    ap (λ (m : ℕ). m ∷ []) (sym (glyph_decimal n ∙ ap (λ (m : ℕ). 48 + m) same))
 
 -- the first of two or more digits is not 0
 fewest_least : (k n : ℕ) → IsDigitCount 10 1 n (suc (suc k)) → 10 * 10 ^ k ≤ n
@@ -76,6 +83,17 @@ number_after at n count size line text kept last rest room fewest spelt long cop
     (ap (λ (l : List ℕ). take (at + length text) (take at line ++ l)) (append_assoc text kept rest)
     ∙ put_after at line text (kept ++ rest) room
     ∙ ap (λ (l : List ℕ). take at line ++ l) (spelt ∙ digits_decimal n count fewest))
+
+-- the same where the whole text is copied
+pub number_put : (at n count size : ℕ) (line text kept last rest : List ℕ)
+    → at ≤ length line
+    → IsDigitCount 10 1 n count
+    → text ≡ last_digits 10 count n
+    → size ≡ length text
+    → last ≡ text ++ kept
+    → take (at + size) (take at line ++ (last ++ rest)) ≡ take at line ++ decimal n
+number_put at n count size line text kept last rest room fewest spelt long copied =
+    number_after at n count size line text kept last rest room fewest spelt long (copied ∙ ap (λ (l : List ℕ). l ++ kept) (sym (take-length text)))
 
 -- ---- the whole line, number by number
 
