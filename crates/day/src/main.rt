@@ -11,7 +11,8 @@ use day_lines::LINE;
 use day_opening::Opening;
 use day_orders::PIECE;
 use day_results::Outcome;
-use libc::STDOUT_FILENO;
+use std::io::Read;
+use std::rt::Files;
 
 // One byte more than a site file may have, so that a longer one is seen.
 const FILE: usize = site::FILE_LIMIT + 1;
@@ -22,7 +23,9 @@ const AREA: usize = 65536;
 const WORDS: usize = AREA / 4;
 
 // Reads what is next of the script, takes its turn and prints the line that it has.
-fn run_turn(
+fn run_turn<R: Read>(
+    rt: &impl Print,
+    script: &mut R,
     file: &[u8],
     board: &mut [u8],
     out: &mut [u8],
@@ -35,7 +38,7 @@ fn run_turn(
     ensures { result.light ≤ day_area }
 {
     let mut piece = [0u8; PIECE];
-    let n = day_input::read_piece(&mut piece);
+    let n = day_input::read_piece(script, &mut piece);
     let mut line = [0u8; LINE];
     let done = day_turns::turn(
         file,
@@ -47,12 +50,20 @@ fn run_turn(
         &piece[..n],
         &mut line,
     );
-    io::write_all(STDOUT_FILENO, &line[..done.text]);
+    // A line that cannot be written changes nothing that follows.
+    let _ = rt.write_all(&line[..done.text]);
     done
 }
 
 // Nothing says that the input ends, so the loop counts its turns down from a number that no run uses up.
-fn run_turns(file: &[u8], board: &mut [u8], out: &mut [u8], words: &mut [u32])
+fn run_turns<R: Read>(
+    rt: &impl Print,
+    script: &mut R,
+    file: &[u8],
+    board: &mut [u8],
+    out: &mut [u8],
+    words: &mut [u32],
+)
     requires areas { Areas (length out.old) (length words.old) 0 }
     requires header_in_bounds { header ≤ length board.old }
 {
@@ -61,7 +72,7 @@ fn run_turns(file: &[u8], board: &mut [u8], out: &mut [u8], words: &mut [u32])
     let mut going = true;
     let mut turns = u64::MAX;
     while going && turns > 0 {
-        let done = run_turn(file, board, out, words, light, first);
+        let done = run_turn(rt, script, file, board, out, words, light, first);
         light = done.light;
         first = false;
         going = done.going;
@@ -70,26 +81,34 @@ fn run_turns(file: &[u8], board: &mut [u8], out: &mut [u8], words: &mut [u32])
 }
 
 // The program, over areas that are lent to it.
-fn run_day(file: &mut [u8], area: &mut [u8], out: &mut [u8], words: &mut [u32])
+fn run_day<R: Read>(
+    rt: &(impl Files + Print),
+    script: &mut R,
+    file: &mut [u8],
+    area: &mut [u8],
+    out: &mut [u8],
+    words: &mut [u32],
+)
     requires area_len { length area.old ≡ day_area }
     requires areas { Areas (length out.old) (length words.old) 0 }
 {
-    let n = day_input::load(file);
+    let n = day_input::load(rt, file);
     let mut line = [0u8; LINE];
     match day_opening::start(&file[..n], area, &mut line) {
         Opening::Opened(size) => {
-            run_turns(&file[..n], &mut area[..size], out, words);
+            run_turns(rt, script, &file[..n], &mut area[..size], out, words);
         }
         Opening::Refused(text) => {
-            io::write_all(STDOUT_FILENO, &line[..text]);
+            let _ = rt.write_all(&line[..text]);
         }
     }
 }
 
-fn main() {
+fn main(rt: HostRuntime) {
+    let mut script = rt.stdin();
     let mut file = [0u8; FILE];
     let mut area = [0u8; AREA];
     let mut out = [0u8; AREA];
     let mut words = [0u32; WORDS];
-    run_day(&mut file, &mut area, &mut out, &mut words);
+    run_day(&rt, &mut script, &mut file, &mut area, &mut out, &mut words);
 }

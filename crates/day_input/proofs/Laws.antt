@@ -7,7 +7,7 @@ use mathlib.Core.List.{List, ◌++◌}
 use lib.ListN.{length, take, drop, length-drop}
 use lib.Seq.{length-take-le, length_front}
 use borrow.Rule.Slice.PartMut.{put_mid, same_len_mid, mid_of}
-use Rattle.io.specs.Counts.{IsPrefixLen}
+use Rattle.day_lines.specs.Counts.{IsPrefixLen}
 use Rattle.meaning.specs.Limits.{field_header, route_size}
 
 pub counts : (n : ℕ) (xs : List ℕ) → n ≤ length xs → IsPrefixLen n xs

@@ -8,7 +8,7 @@ use mathlib.Core.List.{List, [], ◌∷◌, ◌++◌}
 use lib.Dec.{eqb}
 use lib.ListN.{length, take, drop, replicate, length-take, length-append, length-replicate}
 use lib.Seq.{take_at}
-use Rattle.io.specs.Counts.{IsPrefixLen}
+use Rattle.day_lines.specs.Counts.{IsPrefixLen}
 use Rattle.meaning.specs.Limits.{day_area}
 use Rattle.meaning.specs.Answers.{◌if◌, lowest}
 use Rattle.meaning.specs.Site.{site_of, site_refusals}

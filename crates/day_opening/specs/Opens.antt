@@ -1,7 +1,7 @@
 -- What starting the day came to, by the number of opening its board.
 -- Assumes nothing.
 use Rattle.std.specs.Prelude.{ℕ, ◌≤◌, ◌≡◌, List, length, take}
-use Rattle.io.specs.Counts.{IsPrefixLen}
+use Rattle.day_lines.specs.Counts.{IsPrefixLen}
 use Rattle.meaning.specs.Limits.{header}
 use Rattle.meaning.specs.Day.{line, text_of}
 use Rattle.meaning.specs.DayPrints.{start}

@@ -7,7 +7,7 @@ use mathlib.Core.Bool.{Bool, true, false}
 use mathlib.Core.Option.{Option, none, some}
 use mathlib.Core.List.{List, [], ◌∷◌, append-nil}
 use lib.ListN.{take}
-use Rattle.io.specs.Counts.{IsPrefixLen}
+use Rattle.day_lines.specs.Counts.{IsPrefixLen}
 use Rattle.meaning.specs.Limits.{day_area}
 use Rattle.meaning.specs.Fields.{Fields, end, cut, next}
 use Rattle.meaning.specs.Board.{edition}

@@ -2,7 +2,7 @@
 -- Assumes nothing.
 use Rattle.std.specs.Prelude.{ℕ, ◌≤◌, ◌≡◌, Bool, true, false, List, take}
 use Rattle.std.proofs.Math.Option.{Option, none, some}
-use Rattle.io.specs.Counts.{IsPrefixLen}
+use Rattle.day_lines.specs.Counts.{IsPrefixLen}
 use Rattle.meaning.specs.Limits.{day_area}
 use Rattle.meaning.specs.Fields.{Fields}
 use Rattle.meaning.specs.Calls.{Call}
