@@ -5,7 +5,7 @@ use Prim.Native.Nat.{ℕ, zero, suc}
 use mathlib.Core.Path.{◌≡◌, refl, sym, ap, ap₂, ◌∙◌, subst}
 use mathlib.Core.List.{List, [], ◌∷◌}
 use contract.Lifetimes.{Lfts}
-use denote.Ref.{Bor}
+use denote.Ref.{Bor, MutBor}
 use Rattle.meaning.specs.Answers.{lowest}
 use Rattle.meaning.specs.Site.{site_of}
 use Rattle.meaning.specs.Plan.{Node}
@@ -72,6 +72,10 @@ lifetimes (suc n) = ([], lifetimes n)
 -- a list, lent
 abbrev pub lend : List ℕ → Bor (List ℕ)
 lend b = record { ref_ptr = (0, 0); now = b }
+
+-- and lent to be written
+abbrev pub lend_mut : List ℕ → MutBor (List ℕ)
+lend_mut b = record { ref_ptr = (0, 0); ghost_name = 0; now = b }
 
 -- each call with the areas that it brings, on the board that the one before left
 abbrev pub turns : List ℕ → List ℕ → List (Call × (List ℕ × List ℕ)) → List Turn
