@@ -20,7 +20,6 @@ use Rattle.fields.specs.Items.{first_item, item_of}
 use Rattle.fields.specs.declared.Header.{Header}
 use Rattle.fields.specs.declared.Item.{Item}
 use Rattle.fields.specs.declared.Item.TheVariants.{Cut, End}
-use Rattle.fields.specs.declared.Item.TheVariants as Item
 use Rattle.fields.specs.contracts.Item.{the_type}
 
 -- ---- by place
@@ -192,6 +191,12 @@ module _ (s : List ℕ) (at : ℕ) where
   no_field (Item.Field h) (inr met) e = absurd (omega arith)
   no_field Cut met e = ap listed (is_cut e)
   no_field End met e = ap listed (at_end s at (is_end e))
+
+  pub not_field : (k : Item) → ((h : Header) → k ≡ Item.Field h → ⊥) → k ≡ item_of s at → listed (fields_at s at) ≡ []
+  unfolding listed
+  not_field (Item.Field h) met e = absurd (met h refl)
+  not_field Cut met e = ap listed (is_cut e)
+  not_field End met e = ap listed (at_end s at (is_end e))
 
   pub is_field : (h : Header) → Item.Field h ≡ item_of s at → Whole s at h
   is_field h e =

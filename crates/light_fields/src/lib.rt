@@ -57,7 +57,7 @@ pub fn write_head(out: &mut [u8], head: Head)
         high(head.dwell),
         low(head.dwell),
     ];
-    out[..field.len()].copy_from_slice(&field);
+    out[..light::FIRST_STEP].copy_from_slice(&field);
 }
 
 // Writes a step's field at `at`.
@@ -68,5 +68,5 @@ pub fn write_step(out: &mut [u8], at: usize, tag: u8, n: u16)
     let first = high(n);
     let last = low(n);
     let field = [tag, 0, STEP_SIZE, first, last];
-    out[at..at + field.len()].copy_from_slice(&field);
+    out[at..at + light::STEP_FIELD].copy_from_slice(&field);
 }

@@ -19,7 +19,6 @@ use Rattle.fields.specs.declared.Header.{Header}
 use Rattle.fields.specs.Places.{fields_at, field_at, Whole}
 use Rattle.fields.proofs.Laws.{at_end, at_next, by_place, value_length, value_u16, field_tag, whole_length}
 use Rattle.light_steps.specs.Steps.{steps_from, laid_from, step_by, step_in, step_of_first, step_at}
-use Rattle.light_steps.specs.declared.Step.{Step}
 use Rattle.light_steps.specs.declared.Step.TheVariants.{Wait, Move, End, Wrong}
 
 -- ---- the step in a field, from the numbers of its header
