@@ -1,16 +1,16 @@
 -- Laws of the centres of a site file that is laid out well: they end the file.
 -- Assumes nothing.
 use Prim.Native.Nat.{ℕ, zero, suc, ◌+◌, ◌*◌, ◌-◌, ◌≤◌, ◌<◌}
-use mathlib.Core.Path.{◌≡◌, refl, sym, ap, ◌∙◌, subst}
+use mathlib.Core.Path.{◌≡◌, refl, sym, ap, ◌∙◌}
 use mathlib.Core.List.{List, [], ◌∷◌, ◌++◌, map}
-use mathlib.Core.Bool.{true, false}
+use mathlib.Core.Bool.{true}
 use native.Mathlib.Omega.{arith}
 use lib.ListN.{length, get_or, length-map}
 use lib.Dec.{ltb}
 use borrow.Author.Tests.{ltb-true, ltb-false}
 use Rattle.meaning.specs.Basics.{all, u16_at}
 use Rattle.meaning.specs.Fields.{Field, complete, listed}
-use Rattle.meaning.specs.Site.{Centre, no_centre, site_of, state_count, before_centres, from_centres, is_centre, centre_of, centre_at}
+use Rattle.meaning.specs.Site.{Centre, no_centre, site_of, state_count, from_centres, is_centre, centre_of, centre_at}
 use Rattle.meaning.proofs.BasicsLaws.{decide, all_head, all_tail, each_all}
 use Rattle.meaning.proofs.SiteFieldsLaws.{IsCentre, centre_parts, cut_joined, centres_laid_lem}
 use Rattle.fields.specs.Places.{fields_at, field_at, Next}

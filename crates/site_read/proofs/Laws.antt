@@ -24,7 +24,6 @@ use Rattle.site_sweeps.specs.Places.{sweeps_at}
 use Rattle.site_layout.specs.Laid.{state_place, Laid}
 use Rattle.site_layout.proofs.Laws.{laid_count, laid_after, laid_all, laid_motions}
 use Rattle.site_layout.proofs.Laws as Layout
-use Rattle.site_read.specs.declared.Motion as ReadMotion
 use Rattle.site_read.specs.Motions.{Motions, MotionPlace}
 
 -- a file that is read is laid out well

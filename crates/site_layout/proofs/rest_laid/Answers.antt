@@ -1,0 +1,25 @@
+-- `site_layout::rest_laid` meets its contract.
+-- Assumes nothing.
+use Prim.Native.Nat.{ℕ, ◌<◌, ◌≤◌}
+use mathlib.Core.Path.{sym, ap, ◌∙◌, subst}
+use lib.ListN.{drop}
+use Rattle.meaning.specs.Limits.{motion_limit}
+use Rattle.meaning.specs.Fields.{listed}
+use Rattle.meaning.specs.Site.{centres_laid}
+use Rattle.fields.specs.Places.{fields_at}
+use Rattle.site_layout.proofs.Laws.{rest_few, rest_is}
+use native.Mathlib.Omega.{arith}
+use Rattle.site_layout.proofs.rest_laid.Goals as goal
+
+pub returns-then-count-gt-MOTION_LIMIT : goal.returns-then-count-gt-MOTION_LIMIT
+returns-then-count-gt-MOTION_LIMIT c = sym (rest_few _ _ (subst (λ (n : ℕ). motion_limit < n) c.leading_motions-motions.ensures.count c.if-count-gt-MOTION_LIMIT.true))
+
+pub centres_laid-requires : goal.centres_laid-requires
+centres_laid-requires c = let r = c.leading_motions-motions.ensures in (r.whole, r.inside)
+
+pub returns : goal.returns
+returns c = let r = c.leading_motions-motions.ensures in
+    let fs = listed (fields_at c.args.file.now c.args.start) in
+    c.centres_laid.ensures
+    ∙ ap (centres_laid c.args.cells) (r.rest ∙ ap (λ (n : ℕ). drop n fs) r.count)
+    ∙ sym (rest_is c.args.cells fs (subst (λ (n : ℕ). n ≤ motion_limit) r.count (omega (arith, c.if-count-gt-MOTION_LIMIT.false))))
