@@ -1,0 +1,13 @@
+-- `checks_light::valid_most` meets its contract: its index has room.
+-- Assumes nothing.
+use Rattle.meaning.specs.Limits.{motion_limit}
+use Rattle.checks_light.proofs.Laws.{ready_few, index_asked}
+use Rattle.checks_light.proofs.valid_most.Goals as goal
+
+pub fill_index-requires : goal.fill_index-requires
+fill_index-requires c =
+    let (laid, room) = index_asked motion_limit c.requires.0 (ready_few c.requires.0) in
+    record { file_len_bound = laid; motions_in_bounds = room }
+
+pub light_valid-requires : goal.light_valid-requires
+light_valid-requires c = (c.requires.0, c.fill_index.ensures.index, c.requires.1)
