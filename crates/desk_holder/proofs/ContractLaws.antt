@@ -15,7 +15,7 @@ use Rattle.desk_holder.proofs.close.Reads as close_reads
 use Rattle.desk_holder.proofs.withdraw.Reads as withdraw_reads
 
 -- every exit is a reference of its own: what stays as it was is what the contract says
-module _ (file file' : Bor (List ℕ)) (board left : MutBor (List ℕ)) (out words : List ℕ) (r : Answer) where
+module _ (file : Bor (List ℕ)) (board : MutBor (List ℕ)) (file' : Bor (List ℕ)) (left : MutBor (List ℕ)) (out words : List ℕ) (r : Answer) where
   pub close_meant : (κs : Lfts 2) (h cell first last h' cell' first' last' : ℕ)
       → close_reads.Learnt κs (file, (board, (h, (cell, (first, (last, tt)))))) r (file', (left, (h', (cell', (first', (last', tt))))))
       → (board_done (number_of r) left.now out words ≡ meant file.now (lends board.now out words) (listed (close h cell first last))) × (file'.now ≡ file.now)

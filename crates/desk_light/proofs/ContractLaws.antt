@@ -21,7 +21,7 @@ module _ (file board light file' left light' : Bor (List ℕ)) (out words : List
   audit_meant p =
       (audit_exact file.now board.now out words left.now light.now p.1.1.0 (number_of r) (answered r _ p.0), (p.1.0, p.1.1.1))
 
-module _ (file light file' light' : Bor (List ℕ)) (board left : MutBor (List ℕ)) (out words : List ℕ) (r : Answer) (κs : Lfts 3) where
+module _ (file : Bor (List ℕ)) (board : MutBor (List ℕ)) (light file' : Bor (List ℕ)) (left : MutBor (List ℕ)) (light' : Bor (List ℕ)) (out words : List ℕ) (r : Answer) (κs : Lfts 3) where
   pub post_meant : post_reads.Learnt κs (file, (board, (light, tt))) r (file', (left, (light', tt)))
       → (board_done (number_of r) left.now out words ≡ meant file.now (lends board.now out words) (listed (post light.now)))
       × ((file'.now ≡ file.now) × (light'.now ≡ light.now))
