@@ -6,7 +6,7 @@ use Prim.Native.Nat.{ℕ}
 use mathlib.Core.Path.{◌≡◌, ap, ◌∙◌}
 use mathlib.Core.List.{List, []}
 use contract.Lifetimes.{Lfts}
-use denote.Ref.{Bor}
+use denote.Ref.{Bor, MutBor}
 use Rattle.meaning.specs.Calls.{opening, interval, Lent, lends, meant}
 use Rattle.answers.specs.declared.Answer.{Answer}
 use Rattle.answers.specs.declared.Counted.{Counted}
@@ -18,12 +18,12 @@ use Rattle.desk_board.proofs.open.Reads as open_reads
 use Rattle.desk_board.proofs.interval.Reads as interval_reads
 
 -- every exit is a reference of its own: what stays as it was is what the contract says
-module _ (file board file' left : Bor (List ℕ)) (out words : List ℕ) (r : Answer) where
+module _ (file : Bor (List ℕ)) (board : MutBor (List ℕ)) (file' : Bor (List ℕ)) (left : MutBor (List ℕ)) (out words : List ℕ) (r : Answer) where
   pub open_meant : (κs : Lfts 2) → open_reads.Learnt κs (file, (board, tt)) r (file', (left, tt))
       → (board_done (number_of r) left.now out words ≡ meant file.now (lends board.now out words) opening) × (file'.now ≡ file.now)
   open_meant κs p = (board_exact file.now board.now out words left.now opening tt (number_of r) (answered r _ p.0) p.1.0, p.1.1)
 
-pub interval_meant : (file board out file' board' left : Bor (List ℕ)) (words : List ℕ) (r : Counted) (κs : Lfts 3) (cell cell' : ℕ)
+pub interval_meant : (file board : Bor (List ℕ)) (out : MutBor (List ℕ)) (file' board' : Bor (List ℕ)) (left : MutBor (List ℕ)) (words : List ℕ) (r : Counted) (κs : Lfts 3) (cell cell' : ℕ)
     → interval_reads.Learnt κs (file, (board, (cell, (out, tt)))) r (file', (board', (cell', (left, tt))))
     → (record { number = counted_number r; values = counted_values r; lent = lends board'.now left.now words }
     ≡ meant file.now (lends board.now out.now words) (interval cell)) × (file'.now ≡ file.now)

@@ -5,7 +5,7 @@ use Prim.Native.Nat.{ℕ}
 use mathlib.Core.Path.{◌≡◌}
 use mathlib.Core.List.{List}
 use contract.Lifetimes.{Lfts}
-use denote.Ref.{Bor}
+use denote.Ref.{Bor, MutBor}
 use Rattle.meaning.specs.Calls.{listed, close, withdraw, lends, meant}
 use Rattle.answers.specs.declared.Answer.{Answer}
 use Rattle.answers.specs.Answers.{number_of}
@@ -15,7 +15,7 @@ use Rattle.desk_holder.proofs.close.Reads as close_reads
 use Rattle.desk_holder.proofs.withdraw.Reads as withdraw_reads
 
 -- every exit is a reference of its own: what stays as it was is what the contract says
-module _ (file board file' left : Bor (List ℕ)) (out words : List ℕ) (r : Answer) where
+module _ (file : Bor (List ℕ)) (board : MutBor (List ℕ)) (file' : Bor (List ℕ)) (left : MutBor (List ℕ)) (out words : List ℕ) (r : Answer) where
   pub close_meant : (κs : Lfts 2) (h cell first last h' cell' first' last' : ℕ)
       → close_reads.Learnt κs (file, (board, (h, (cell, (first, (last, tt)))))) r (file', (left, (h', (cell', (first', (last', tt))))))
       → (board_done (number_of r) left.now out words ≡ meant file.now (lends board.now out words) (listed (close h cell first last))) × (file'.now ≡ file.now)

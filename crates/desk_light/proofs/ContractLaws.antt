@@ -5,7 +5,7 @@ use Prim.Native.Nat.{ℕ}
 use mathlib.Core.Path.{◌≡◌}
 use mathlib.Core.List.{List}
 use contract.Lifetimes.{Lfts}
-use denote.Ref.{Bor}
+use denote.Ref.{Bor, MutBor}
 use Rattle.meaning.specs.Calls.{listed, audit, post, lends, meant}
 use Rattle.answers.specs.declared.Answer.{Answer}
 use Rattle.answers.specs.Answers.{number_of}
@@ -21,6 +21,7 @@ module _ (file board light file' left light' : Bor (List ℕ)) (out words : List
   audit_meant p =
       (audit_exact file.now board.now out words left.now light.now p.1.1.0 (number_of r) (answered r _ p.0), (p.1.0, p.1.1.1))
 
+module _ (file : Bor (List ℕ)) (board : MutBor (List ℕ)) (light file' : Bor (List ℕ)) (left : MutBor (List ℕ)) (light' : Bor (List ℕ)) (out words : List ℕ) (r : Answer) (κs : Lfts 3) where
   pub post_meant : post_reads.Learnt κs (file, (board, (light, tt))) r (file', (left, (light', tt)))
       → (board_done (number_of r) left.now out words ≡ meant file.now (lends board.now out words) (listed (post light.now)))
       × ((file'.now ≡ file.now) × (light'.now ≡ light.now))

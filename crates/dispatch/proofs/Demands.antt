@@ -5,7 +5,7 @@ use Prim.Native.Nat.{ℕ}
 use mathlib.Core.Path.{◌≡◌, refl, subst}
 use mathlib.Core.List.{List, []}
 use contract.Lifetimes.{Lfts}
-use denote.Ref.{Bor}
+use denote.Ref.{Bor, MutBor}
 use Rattle.meaning.specs.Calls.{PublicCall, opening, interval, listed, Call, route, audit, post, close, withdraw, Lent, lends, on_board, Done, meant}
 use Rattle.meaning.specs.Demands.{Exact, Demand1, Demand2, Demand3, Follows}
 use Rattle.meaning.proofs.Theorems.{exact_demands}
@@ -17,7 +17,7 @@ use Rattle.answers.specs.declared.Counted.{Counted}
 use Rattle.answers.specs.declared.Granted.{Granted}
 use Rattle.answers.specs.Answers.{number_of, answer_of, counted_number, counted_values, counted_of, granted_number, granted_values, granted_of}
 use Rattle.travel.specs.Timed.{timed_returned, timed_of}
-use Rattle.answers.proofs.DeskLaws.{board_done, lifetimes, lend, turns, AllowsSome, allows_meant, every_run}
+use Rattle.answers.proofs.DeskLaws.{board_done, lifetimes, lend, lend_mut, turns, AllowsSome, allows_meant, every_run}
 use Rattle.desk_board.proofs.ContractLaws.{open_meant, interval_meant}
 use Rattle.desk_holder.proofs.ContractLaws.{close_meant, withdraw_meant}
 use Rattle.desk_light.proofs.ContractLaws.{audit_meant, post_meant}
@@ -35,27 +35,27 @@ use Rattle.travel.proofs.travel.Reads as travel_reads
 -- `Calls file lent call done`: the contract of the call's function allows this answer and these areas after it. Each parameter as the
 -- function leaves it has a name of its own, so that what stays is learnt from the contract and from nothing else.
 pub data Calls : List ℕ → Lent → PublicCall → Done → Type 0 where
-  opens : (κs : Lfts 2) (file board file' left : Bor (List ℕ)) (out words : List ℕ) (r : Answer)
+  opens : (κs : Lfts 2) (file : Bor (List ℕ)) (board : MutBor (List ℕ)) (file' : Bor (List ℕ)) (left : MutBor (List ℕ)) (out words : List ℕ) (r : Answer)
       → open_reads.Learnt κs (file, (board, tt)) r (file', (left, tt))
       → Calls file.now (lends board.now out words) opening (board_done (number_of r) left.now out words)
-  counts : (κs : Lfts 3) (file board out file' board' left : Bor (List ℕ)) (cell cell' : ℕ) (words : List ℕ) (r : Counted)
+  counts : (κs : Lfts 3) (file board : Bor (List ℕ)) (out : MutBor (List ℕ)) (file' board' : Bor (List ℕ)) (left : MutBor (List ℕ)) (cell cell' : ℕ) (words : List ℕ) (r : Counted)
       → interval_reads.Learnt κs (file, (board, (cell, (out, tt)))) r (file', (board', (cell', (left, tt))))
       → Calls file.now (lends board.now out.now words) (interval cell)
       (record { number = counted_number r; values = counted_values r; lent = lends board'.now left.now words })
-  routes : (κs : Lfts 4) (file board out words file' board' left cleared : Bor (List ℕ)) (tug start tick goal dwell tug' start' tick' goal' dwell' : ℕ) (r : Granted)
+  routes : (κs : Lfts 4) (file board : Bor (List ℕ)) (out words : MutBor (List ℕ)) (file' board' : Bor (List ℕ)) (left cleared : MutBor (List ℕ)) (tug start tick goal dwell tug' start' tick' goal' dwell' : ℕ) (r : Granted)
       → route_reads.Learnt κs (file, (board, (tug, (start, (tick, (goal, (dwell, (out, (words, tt))))))))) r (file', (board', (tug', (start', (tick', (goal', (dwell', (left, (cleared, tt)))))))))
       → Calls file.now (lends board.now out.now words.now) (listed (route tug (node start tick) goal dwell))
       (record { number = granted_number r; values = granted_values r; lent = lends board'.now left.now cleared.now })
   audits : (κs : Lfts 3) (file board light file' left light' : Bor (List ℕ)) (out words : List ℕ) (r : Answer)
       → audit_reads.Learnt κs (file, (board, (light, tt))) r (file', (left, (light', tt)))
       → Calls file.now (lends board.now out words) (listed (audit light.now)) (board_done (number_of r) left.now out words)
-  posts : (κs : Lfts 3) (file board light file' left light' : Bor (List ℕ)) (out words : List ℕ) (r : Answer)
+  posts : (κs : Lfts 3) (file : Bor (List ℕ)) (board : MutBor (List ℕ)) (light file' : Bor (List ℕ)) (left : MutBor (List ℕ)) (light' : Bor (List ℕ)) (out words : List ℕ) (r : Answer)
       → post_reads.Learnt κs (file, (board, (light, tt))) r (file', (left, (light', tt)))
       → Calls file.now (lends board.now out words) (listed (post light.now)) (board_done (number_of r) left.now out words)
-  closes : (κs : Lfts 2) (file board file' left : Bor (List ℕ)) (h cell first last h' cell' first' last' : ℕ) (out words : List ℕ) (r : Answer)
+  closes : (κs : Lfts 2) (file : Bor (List ℕ)) (board : MutBor (List ℕ)) (file' : Bor (List ℕ)) (left : MutBor (List ℕ)) (h cell first last h' cell' first' last' : ℕ) (out words : List ℕ) (r : Answer)
       → close_reads.Learnt κs (file, (board, (h, (cell, (first, (last, tt)))))) r (file', (left, (h', (cell', (first', (last', tt))))))
       → Calls file.now (lends board.now out words) (listed (close h cell first last)) (board_done (number_of r) left.now out words)
-  withdraws : (κs : Lfts 2) (file board file' left : Bor (List ℕ)) (h h' : ℕ) (out words : List ℕ) (r : Answer)
+  withdraws : (κs : Lfts 2) (file : Bor (List ℕ)) (board : MutBor (List ℕ)) (file' : Bor (List ℕ)) (left : MutBor (List ℕ)) (h h' : ℕ) (out words : List ℕ) (r : Answer)
       → withdraw_reads.Learnt κs (file, (board, (h, tt))) r (file', (left, (h', tt)))
       → Calls file.now (lends board.now out words) (listed (withdraw h)) (board_done (number_of r) left.now out words)
 
@@ -85,19 +85,19 @@ demand3 = (exact_demands Calls exact).third
 -- ---- a site file and a light, which are lent for reading, are after the call as they were; what a call leaves of a board is in `Calls`
 
 pub record Unchanged : Type 0 where
-  pub opens : (κs : Lfts 2) (file board file' left : Bor (List ℕ)) (r : Answer) → open_reads.Learnt κs (file, (board, tt)) r (file', (left, tt)) → file'.now ≡ file.now
-  pub counts : (κs : Lfts 3) (file board out file' board' left : Bor (List ℕ)) (cell cell' : ℕ) (r : Counted)
+  pub opens : (κs : Lfts 2) (file : Bor (List ℕ)) (board : MutBor (List ℕ)) (file' : Bor (List ℕ)) (left : MutBor (List ℕ)) (r : Answer) → open_reads.Learnt κs (file, (board, tt)) r (file', (left, tt)) → file'.now ≡ file.now
+  pub counts : (κs : Lfts 3) (file board : Bor (List ℕ)) (out : MutBor (List ℕ)) (file' board' : Bor (List ℕ)) (left : MutBor (List ℕ)) (cell cell' : ℕ) (r : Counted)
       → interval_reads.Learnt κs (file, (board, (cell, (out, tt)))) r (file', (board', (cell', (left, tt)))) → file'.now ≡ file.now
-  pub routes : (κs : Lfts 4) (file board out words file' board' left cleared : Bor (List ℕ)) (tug start tick goal dwell tug' start' tick' goal' dwell' : ℕ) (r : Granted)
+  pub routes : (κs : Lfts 4) (file board : Bor (List ℕ)) (out words : MutBor (List ℕ)) (file' board' : Bor (List ℕ)) (left cleared : MutBor (List ℕ)) (tug start tick goal dwell tug' start' tick' goal' dwell' : ℕ) (r : Granted)
       → route_reads.Learnt κs (file, (board, (tug, (start, (tick, (goal, (dwell, (out, (words, tt))))))))) r (file', (board', (tug', (start', (tick', (goal', (dwell', (left, (cleared, tt)))))))))
       → file'.now ≡ file.now
   pub audits : (κs : Lfts 3) (file board light file' left light' : Bor (List ℕ)) (r : Answer)
       → audit_reads.Learnt κs (file, (board, (light, tt))) r (file', (left, (light', tt))) → (file'.now ≡ file.now) × (light'.now ≡ light.now)
-  pub posts : (κs : Lfts 3) (file board light file' left light' : Bor (List ℕ)) (r : Answer)
+  pub posts : (κs : Lfts 3) (file : Bor (List ℕ)) (board : MutBor (List ℕ)) (light file' : Bor (List ℕ)) (left : MutBor (List ℕ)) (light' : Bor (List ℕ)) (r : Answer)
       → post_reads.Learnt κs (file, (board, (light, tt))) r (file', (left, (light', tt))) → (file'.now ≡ file.now) × (light'.now ≡ light.now)
-  pub closes : (κs : Lfts 2) (file board file' left : Bor (List ℕ)) (h cell first last h' cell' first' last' : ℕ) (r : Answer)
+  pub closes : (κs : Lfts 2) (file : Bor (List ℕ)) (board : MutBor (List ℕ)) (file' : Bor (List ℕ)) (left : MutBor (List ℕ)) (h cell first last h' cell' first' last' : ℕ) (r : Answer)
       → close_reads.Learnt κs (file, (board, (h, (cell, (first, (last, tt)))))) r (file', (left, (h', (cell', (first', (last', tt)))))) → file'.now ≡ file.now
-  pub withdraws : (κs : Lfts 2) (file board file' left : Bor (List ℕ)) (h h' : ℕ) (r : Answer)
+  pub withdraws : (κs : Lfts 2) (file : Bor (List ℕ)) (board : MutBor (List ℕ)) (file' : Bor (List ℕ)) (left : MutBor (List ℕ)) (h h' : ℕ) (r : Answer)
       → withdraw_reads.Learnt κs (file, (board, (h, tt))) r (file', (left, (h', tt))) → file'.now ≡ file.now
 
 pub unchanged : Unchanged
@@ -116,14 +116,14 @@ unchanged = record {
 -- ---- the calls ask nothing of their callers: `Asked` is what a contract requires
 
 pub record AsksNothing : Type 0 where
-  pub opens : (κs : Lfts 2) (file board : Bor (List ℕ)) → open_reads.Asked κs (file, (board, tt))
-  pub counts : (κs : Lfts 3) (file board out : Bor (List ℕ)) (cell : ℕ) → interval_reads.Asked κs (file, (board, (cell, (out, tt))))
-  pub routes : (κs : Lfts 4) (file board out words : Bor (List ℕ)) (tug start tick goal dwell : ℕ)
+  pub opens : (κs : Lfts 2) (file : Bor (List ℕ)) (board : MutBor (List ℕ)) → open_reads.Asked κs (file, (board, tt))
+  pub counts : (κs : Lfts 3) (file board : Bor (List ℕ)) (out : MutBor (List ℕ)) (cell : ℕ) → interval_reads.Asked κs (file, (board, (cell, (out, tt))))
+  pub routes : (κs : Lfts 4) (file board : Bor (List ℕ)) (out words : MutBor (List ℕ)) (tug start tick goal dwell : ℕ)
       → route_reads.Asked κs (file, (board, (tug, (start, (tick, (goal, (dwell, (out, (words, tt)))))))))
   pub audits : (κs : Lfts 3) (file board light : Bor (List ℕ)) → audit_reads.Asked κs (file, (board, (light, tt)))
-  pub posts : (κs : Lfts 3) (file board light : Bor (List ℕ)) → post_reads.Asked κs (file, (board, (light, tt)))
-  pub closes : (κs : Lfts 2) (file board : Bor (List ℕ)) (h cell first last : ℕ) → close_reads.Asked κs (file, (board, (h, (cell, (first, (last, tt))))))
-  pub withdraws : (κs : Lfts 2) (file board : Bor (List ℕ)) (h : ℕ) → withdraw_reads.Asked κs (file, (board, (h, tt)))
+  pub posts : (κs : Lfts 3) (file : Bor (List ℕ)) (board : MutBor (List ℕ)) (light : Bor (List ℕ)) → post_reads.Asked κs (file, (board, (light, tt)))
+  pub closes : (κs : Lfts 2) (file : Bor (List ℕ)) (board : MutBor (List ℕ)) (h cell first last : ℕ) → close_reads.Asked κs (file, (board, (h, (cell, (first, (last, tt))))))
+  pub withdraws : (κs : Lfts 2) (file : Bor (List ℕ)) (board : MutBor (List ℕ)) (h : ℕ) → withdraw_reads.Asked κs (file, (board, (h, tt)))
   pub travels : (κs : Lfts 0) (d : ℕ) → travel_reads.Asked κs (d, tt)
 
 pub asks_nothing : AsksNothing
@@ -150,26 +150,26 @@ module _ (file : List ℕ) where
 
   some : AllowsSome Calls file
   some l opening =
-      (_, Calls.opens (lifetimes 2) (lend file) (lend l.board) (lend file) (lend (on_board_done l opening).lent.board) l.out l.words (answer_of (on_board_done l opening).number) (refl, (refl, refl)))
+      (_, Calls.opens (lifetimes 2) (lend file) (lend_mut l.board) (lend file) (lend_mut (on_board_done l opening).lent.board) l.out l.words (answer_of (on_board_done l opening).number) (refl, (refl, refl)))
   some l (interval cell) =
-      (_, Calls.counts (lifetimes 3) (lend file) (lend l.board) (lend l.out) (lend file) (lend l.board) (lend (interval_done l cell).lent.out) cell cell l.words (counted_of (interval_done l cell)) (refl, (refl, (refl, refl))))
+      (_, Calls.counts (lifetimes 3) (lend file) (lend l.board) (lend_mut l.out) (lend file) (lend l.board) (lend_mut (interval_done l cell).lent.out) cell cell l.words (counted_of (interval_done l cell)) (refl, (refl, (refl, refl))))
   some l (listed (route tug a goal dwell)) =
       let is : Done = meant file l (listed (route tug a goal dwell)) in (
         _,
-        Calls.routes (lifetimes 4) (lend file) (lend l.board) (lend l.out) (lend l.words) (lend file) (lend l.board) (lend is.lent.out) (lend is.lent.words)
+        Calls.routes (lifetimes 4) (lend file) (lend l.board) (lend_mut l.out) (lend_mut l.words) (lend file) (lend l.board) (lend_mut is.lent.out) (lend_mut is.lent.words)
             tug a.state a.tick goal dwell tug a.state a.tick goal dwell (granted_of is) (refl, (refl, (refl, (refl, refl)))),
       )
   some l (listed (audit light)) =
       (_, Calls.audits (lifetimes 3) (lend file) (lend l.board) (lend light) (lend file) (lend l.board) (lend light) l.out l.words (answer_of (on_board_done l (listed (audit light))).number) (refl, (refl, (refl, refl))))
   some l (listed (post light)) =
       let is : Done = on_board_done l (listed (post light)) in
-      (_, Calls.posts (lifetimes 3) (lend file) (lend l.board) (lend light) (lend file) (lend is.lent.board) (lend light) l.out l.words (answer_of is.number) (refl, (refl, (refl, refl))))
+      (_, Calls.posts (lifetimes 3) (lend file) (lend_mut l.board) (lend light) (lend file) (lend_mut is.lent.board) (lend light) l.out l.words (answer_of is.number) (refl, (refl, (refl, refl))))
   some l (listed (close h cell first last)) =
       let is : Done = on_board_done l (listed (close h cell first last)) in
-      (_, Calls.closes (lifetimes 2) (lend file) (lend l.board) (lend file) (lend is.lent.board) h cell first last h cell first last l.out l.words (answer_of is.number) (refl, (refl, refl)))
+      (_, Calls.closes (lifetimes 2) (lend file) (lend_mut l.board) (lend file) (lend_mut is.lent.board) h cell first last h cell first last l.out l.words (answer_of is.number) (refl, (refl, refl)))
   some l (listed (withdraw h)) =
       let is : Done = on_board_done l (listed (withdraw h)) in
-      (_, Calls.withdraws (lifetimes 2) (lend file) (lend l.board) (lend file) (lend is.lent.board) h h l.out l.words (answer_of is.number) (refl, (refl, refl)))
+      (_, Calls.withdraws (lifetimes 2) (lend file) (lend_mut l.board) (lend file) (lend_mut is.lent.board) h h l.out l.words (answer_of is.number) (refl, (refl, refl)))
 
   pub can : (l : Lent) (q : PublicCall) → Calls file l q (meant file l q)
   can = allows_meant Calls exact file some

@@ -7,7 +7,7 @@ use mathlib.Core.List.{List, []}
 use lib.Dec.{ltb}
 use borrow.Author.Tests.{ltb-true, ltb-false}
 use contract.Lifetimes.{Lfts}
-use denote.Ref.{Bor}
+use denote.Ref.{Bor, MutBor}
 use Rattle.meaning.specs.Calls.{PublicCall, opening, interval, listed, Call, route, audit, post, close, withdraw, Lent, lends, on_board, Done, meant}
 use Rattle.meaning.specs.Demands.{Exact, Demand1, Demand2, Demand3, Follows}
 use Rattle.meaning.proofs.AreaLaws.{BoardCall}
@@ -21,7 +21,7 @@ use Rattle.travel_runs.proofs.CallLaws.{meant_entry, meant_refused}
 use Rattle.travel_runs.proofs.Theorems.{travel_right}
 use Rattle.travel.specs.Timed.{timed_of}
 use Rattle.answers.specs.Answers.{counted_of, granted_of}
-use Rattle.answers.proofs.DeskLaws.{board_done, board_exact, audit_exact, interval_exact, route_exact, lifetimes, lend, turns, AllowsSome, allows_meant, every_run}
+use Rattle.answers.proofs.DeskLaws.{board_done, board_exact, audit_exact, interval_exact, route_exact, lifetimes, lend, lend_mut, turns, AllowsSome, allows_meant, every_run}
 use Rattle.answers_c.specs.Words.{counted_word, granted_word, word_number, counted_in, granted_in}
 use Rattle.answers_c.proofs.WordLaws.{counted_back, number_back, interval_back, route_back}
 use Rattle.draw.specs.declared.Drawn.{Drawn}
@@ -44,27 +44,27 @@ use Rattle.dispatch_c.proofs.dispatch_draw.Reads as draw_reads
 -- `Exported file lent call done`: the contract of the call's exported function allows a word `w` that reads so, and these areas after
 -- it. Each parameter as the function leaves it has a name of its own, so that what stays is learnt from the contract and from nothing else.
 pub data Exported : List ℕ → Lent → PublicCall → Done → Type 0 where
-  opens : (κs : Lfts 2) (file board file' left : Bor (List ℕ)) (out words : List ℕ) (w : ℕ)
+  opens : (κs : Lfts 2) (file : Bor (List ℕ)) (board : MutBor (List ℕ)) (file' : Bor (List ℕ)) (left : MutBor (List ℕ)) (out words : List ℕ) (w : ℕ)
       → open_reads.Learnt κs (file, (board, tt)) w (file', (left, tt))
       → Exported file.now (lends board.now out words) opening (board_done (word_number w) left.now out words)
-  counts : (κs : Lfts 3) (file board out file' board' left : Bor (List ℕ)) (cell cell' : ℕ) (words : List ℕ) (w : ℕ)
+  counts : (κs : Lfts 3) (file board : Bor (List ℕ)) (out : MutBor (List ℕ)) (file' board' : Bor (List ℕ)) (left : MutBor (List ℕ)) (cell cell' : ℕ) (words : List ℕ) (w : ℕ)
       → interval_reads.Learnt κs (file, (board, (cell, (out, tt)))) w (file', (board', (cell', (left, tt))))
       → Exported file.now (lends board.now out.now words) (interval cell)
       (record { number = word_number w; values = counted_in w; lent = lends board'.now left.now words })
-  routes : (κs : Lfts 4) (file board out words file' board' left cleared : Bor (List ℕ)) (tug start tick goal dwell tug' start' tick' goal' dwell' w : ℕ)
+  routes : (κs : Lfts 4) (file board : Bor (List ℕ)) (out words : MutBor (List ℕ)) (file' board' : Bor (List ℕ)) (left cleared : MutBor (List ℕ)) (tug start tick goal dwell tug' start' tick' goal' dwell' w : ℕ)
       → route_reads.Learnt κs (file, (board, (tug, (start, (tick, (goal, (dwell, (out, (words, tt))))))))) w (file', (board', (tug', (start', (tick', (goal', (dwell', (left, (cleared, tt)))))))))
       → Exported file.now (lends board.now out.now words.now) (listed (route tug (node start tick) goal dwell))
       (record { number = word_number w; values = granted_in w; lent = lends board'.now left.now cleared.now })
   audits : (κs : Lfts 3) (file board light file' left light' : Bor (List ℕ)) (out words : List ℕ) (w : ℕ)
       → audit_reads.Learnt κs (file, (board, (light, tt))) w (file', (left, (light', tt)))
       → Exported file.now (lends board.now out words) (listed (audit light.now)) (board_done (word_number w) left.now out words)
-  posts : (κs : Lfts 3) (file board light file' left light' : Bor (List ℕ)) (out words : List ℕ) (w : ℕ)
+  posts : (κs : Lfts 3) (file : Bor (List ℕ)) (board : MutBor (List ℕ)) (light file' : Bor (List ℕ)) (left : MutBor (List ℕ)) (light' : Bor (List ℕ)) (out words : List ℕ) (w : ℕ)
       → post_reads.Learnt κs (file, (board, (light, tt))) w (file', (left, (light', tt)))
       → Exported file.now (lends board.now out words) (listed (post light.now)) (board_done (word_number w) left.now out words)
-  closes : (κs : Lfts 2) (file board file' left : Bor (List ℕ)) (h cell first last h' cell' first' last' : ℕ) (out words : List ℕ) (w : ℕ)
+  closes : (κs : Lfts 2) (file : Bor (List ℕ)) (board : MutBor (List ℕ)) (file' : Bor (List ℕ)) (left : MutBor (List ℕ)) (h cell first last h' cell' first' last' : ℕ) (out words : List ℕ) (w : ℕ)
       → close_reads.Learnt κs (file, (board, (h, (cell, (first, (last, tt)))))) w (file', (left, (h', (cell', (first', (last', tt))))))
       → Exported file.now (lends board.now out words) (listed (close h cell first last)) (board_done (word_number w) left.now out words)
-  withdraws : (κs : Lfts 2) (file board file' left : Bor (List ℕ)) (h h' : ℕ) (out words : List ℕ) (w : ℕ)
+  withdraws : (κs : Lfts 2) (file : Bor (List ℕ)) (board : MutBor (List ℕ)) (file' : Bor (List ℕ)) (left : MutBor (List ℕ)) (h h' : ℕ) (out words : List ℕ) (w : ℕ)
       → withdraw_reads.Learnt κs (file, (board, (h, tt))) w (file', (left, (h', tt)))
       → Exported file.now (lends board.now out words) (listed (withdraw h)) (board_done (word_number w) left.now out words)
 
@@ -108,19 +108,19 @@ demand3 = (exact_demands Exported exact).third
 -- ---- a site file and a light, which are lent for reading, are after the call as they were; what a call leaves of a board is in `Exported`
 
 pub record Unchanged : Type 0 where
-  pub opens : (κs : Lfts 2) (file board file' left : Bor (List ℕ)) (w : ℕ) → open_reads.Learnt κs (file, (board, tt)) w (file', (left, tt)) → file'.now ≡ file.now
-  pub counts : (κs : Lfts 3) (file board out file' board' left : Bor (List ℕ)) (cell cell' : ℕ) (w : ℕ)
+  pub opens : (κs : Lfts 2) (file : Bor (List ℕ)) (board : MutBor (List ℕ)) (file' : Bor (List ℕ)) (left : MutBor (List ℕ)) (w : ℕ) → open_reads.Learnt κs (file, (board, tt)) w (file', (left, tt)) → file'.now ≡ file.now
+  pub counts : (κs : Lfts 3) (file board : Bor (List ℕ)) (out : MutBor (List ℕ)) (file' board' : Bor (List ℕ)) (left : MutBor (List ℕ)) (cell cell' : ℕ) (w : ℕ)
       → interval_reads.Learnt κs (file, (board, (cell, (out, tt)))) w (file', (board', (cell', (left, tt)))) → file'.now ≡ file.now
-  pub routes : (κs : Lfts 4) (file board out words file' board' left cleared : Bor (List ℕ)) (tug start tick goal dwell tug' start' tick' goal' dwell' : ℕ) (w : ℕ)
+  pub routes : (κs : Lfts 4) (file board : Bor (List ℕ)) (out words : MutBor (List ℕ)) (file' board' : Bor (List ℕ)) (left cleared : MutBor (List ℕ)) (tug start tick goal dwell tug' start' tick' goal' dwell' : ℕ) (w : ℕ)
       → route_reads.Learnt κs (file, (board, (tug, (start, (tick, (goal, (dwell, (out, (words, tt))))))))) w (file', (board', (tug', (start', (tick', (goal', (dwell', (left, (cleared, tt)))))))))
       → file'.now ≡ file.now
   pub audits : (κs : Lfts 3) (file board light file' left light' : Bor (List ℕ)) (w : ℕ)
       → audit_reads.Learnt κs (file, (board, (light, tt))) w (file', (left, (light', tt))) → (file'.now ≡ file.now) × (light'.now ≡ light.now)
-  pub posts : (κs : Lfts 3) (file board light file' left light' : Bor (List ℕ)) (w : ℕ)
+  pub posts : (κs : Lfts 3) (file : Bor (List ℕ)) (board : MutBor (List ℕ)) (light file' : Bor (List ℕ)) (left : MutBor (List ℕ)) (light' : Bor (List ℕ)) (w : ℕ)
       → post_reads.Learnt κs (file, (board, (light, tt))) w (file', (left, (light', tt))) → (file'.now ≡ file.now) × (light'.now ≡ light.now)
-  pub closes : (κs : Lfts 2) (file board file' left : Bor (List ℕ)) (h cell first last h' cell' first' last' : ℕ) (w : ℕ)
+  pub closes : (κs : Lfts 2) (file : Bor (List ℕ)) (board : MutBor (List ℕ)) (file' : Bor (List ℕ)) (left : MutBor (List ℕ)) (h cell first last h' cell' first' last' : ℕ) (w : ℕ)
       → close_reads.Learnt κs (file, (board, (h, (cell, (first, (last, tt)))))) w (file', (left, (h', (cell', (first', (last', tt)))))) → file'.now ≡ file.now
-  pub withdraws : (κs : Lfts 2) (file board file' left : Bor (List ℕ)) (h h' : ℕ) (w : ℕ)
+  pub withdraws : (κs : Lfts 2) (file : Bor (List ℕ)) (board : MutBor (List ℕ)) (file' : Bor (List ℕ)) (left : MutBor (List ℕ)) (h h' : ℕ) (w : ℕ)
       → withdraw_reads.Learnt κs (file, (board, (h, tt))) w (file', (left, (h', tt))) → file'.now ≡ file.now
   pub draws : (κs : Lfts 2) (file light file' light' : Bor (List ℕ)) (i k i' k' : ℕ) (r : DrawnWord)
       → draw_reads.Learnt κs (file, (light, (i, (k, tt)))) r (file', (light', (i', (k', tt)))) → (file'.now ≡ file.now) × (light'.now ≡ light.now)
@@ -140,14 +140,14 @@ unchanged = record {
 -- ---- the functions ask nothing of their callers: `Asked` is what a contract requires
 
 pub record AsksNothing : Type 0 where
-  pub opens : (κs : Lfts 2) (file board : Bor (List ℕ)) → open_reads.Asked κs (file, (board, tt))
-  pub counts : (κs : Lfts 3) (file board out : Bor (List ℕ)) (cell : ℕ) → interval_reads.Asked κs (file, (board, (cell, (out, tt))))
-  pub routes : (κs : Lfts 4) (file board out words : Bor (List ℕ)) (tug start tick goal dwell : ℕ)
+  pub opens : (κs : Lfts 2) (file : Bor (List ℕ)) (board : MutBor (List ℕ)) → open_reads.Asked κs (file, (board, tt))
+  pub counts : (κs : Lfts 3) (file board : Bor (List ℕ)) (out : MutBor (List ℕ)) (cell : ℕ) → interval_reads.Asked κs (file, (board, (cell, (out, tt))))
+  pub routes : (κs : Lfts 4) (file board : Bor (List ℕ)) (out words : MutBor (List ℕ)) (tug start tick goal dwell : ℕ)
       → route_reads.Asked κs (file, (board, (tug, (start, (tick, (goal, (dwell, (out, (words, tt)))))))))
   pub audits : (κs : Lfts 3) (file board light : Bor (List ℕ)) → audit_reads.Asked κs (file, (board, (light, tt)))
-  pub posts : (κs : Lfts 3) (file board light : Bor (List ℕ)) → post_reads.Asked κs (file, (board, (light, tt)))
-  pub closes : (κs : Lfts 2) (file board : Bor (List ℕ)) (h cell first last : ℕ) → close_reads.Asked κs (file, (board, (h, (cell, (first, (last, tt))))))
-  pub withdraws : (κs : Lfts 2) (file board : Bor (List ℕ)) (h : ℕ) → withdraw_reads.Asked κs (file, (board, (h, tt)))
+  pub posts : (κs : Lfts 3) (file : Bor (List ℕ)) (board : MutBor (List ℕ)) (light : Bor (List ℕ)) → post_reads.Asked κs (file, (board, (light, tt)))
+  pub closes : (κs : Lfts 2) (file : Bor (List ℕ)) (board : MutBor (List ℕ)) (h cell first last : ℕ) → close_reads.Asked κs (file, (board, (h, (cell, (first, (last, tt))))))
+  pub withdraws : (κs : Lfts 2) (file : Bor (List ℕ)) (board : MutBor (List ℕ)) (h : ℕ) → withdraw_reads.Asked κs (file, (board, (h, tt)))
   pub travels : (κs : Lfts 0) (d : ℕ) → travel_reads.Asked κs (d, tt)
   pub draws : (κs : Lfts 2) (file light : Bor (List ℕ)) (i k : ℕ) → draw_reads.Asked κs (file, (light, (i, (k, tt))))
 
@@ -176,26 +176,26 @@ module _ (file : List ℕ) where
 
   some : AllowsSome Exported file
   some l opening =
-      (_, Exported.opens (lifetimes 2) (lend file) (lend l.board) (lend file) (lend (on_board_done l opening).lent.board) l.out l.words (on_board_done l opening).number (refl, (refl, refl)))
+      (_, Exported.opens (lifetimes 2) (lend file) (lend_mut l.board) (lend file) (lend_mut (on_board_done l opening).lent.board) l.out l.words (on_board_done l opening).number (refl, (refl, refl)))
   some l (interval cell) =
-      (_, Exported.counts (lifetimes 3) (lend file) (lend l.board) (lend l.out) (lend file) (lend l.board) (lend (interval_done l cell).lent.out) cell cell l.words (counted_word (counted_of (interval_done l cell))) (refl, (refl, (refl, refl))))
+      (_, Exported.counts (lifetimes 3) (lend file) (lend l.board) (lend_mut l.out) (lend file) (lend l.board) (lend_mut (interval_done l cell).lent.out) cell cell l.words (counted_word (counted_of (interval_done l cell))) (refl, (refl, (refl, refl))))
   some l (listed (route tug a goal dwell)) =
       let is : Done = meant file l (listed (route tug a goal dwell)) in (
         _,
-        Exported.routes (lifetimes 4) (lend file) (lend l.board) (lend l.out) (lend l.words) (lend file) (lend l.board) (lend is.lent.out) (lend is.lent.words)
+        Exported.routes (lifetimes 4) (lend file) (lend l.board) (lend_mut l.out) (lend_mut l.words) (lend file) (lend l.board) (lend_mut is.lent.out) (lend_mut is.lent.words)
             tug a.state a.tick goal dwell tug a.state a.tick goal dwell (granted_word (granted_of is)) (refl, (refl, (refl, (refl, refl)))),
       )
   some l (listed (audit light)) =
       (_, Exported.audits (lifetimes 3) (lend file) (lend l.board) (lend light) (lend file) (lend l.board) (lend light) l.out l.words (on_board_done l (listed (audit light))).number (refl, (refl, (refl, refl))))
   some l (listed (post light)) =
       let is : Done = on_board_done l (listed (post light)) in
-      (_, Exported.posts (lifetimes 3) (lend file) (lend l.board) (lend light) (lend file) (lend is.lent.board) (lend light) l.out l.words is.number (refl, (refl, (refl, refl))))
+      (_, Exported.posts (lifetimes 3) (lend file) (lend_mut l.board) (lend light) (lend file) (lend_mut is.lent.board) (lend light) l.out l.words is.number (refl, (refl, (refl, refl))))
   some l (listed (close h cell first last)) =
       let is : Done = on_board_done l (listed (close h cell first last)) in
-      (_, Exported.closes (lifetimes 2) (lend file) (lend l.board) (lend file) (lend is.lent.board) h cell first last h cell first last l.out l.words is.number (refl, (refl, refl)))
+      (_, Exported.closes (lifetimes 2) (lend file) (lend_mut l.board) (lend file) (lend_mut is.lent.board) h cell first last h cell first last l.out l.words is.number (refl, (refl, refl)))
   some l (listed (withdraw h)) =
       let is : Done = on_board_done l (listed (withdraw h)) in
-      (_, Exported.withdraws (lifetimes 2) (lend file) (lend l.board) (lend file) (lend is.lent.board) h h l.out l.words is.number (refl, (refl, refl)))
+      (_, Exported.withdraws (lifetimes 2) (lend file) (lend_mut l.board) (lend file) (lend_mut is.lent.board) h h l.out l.words is.number (refl, (refl, refl)))
 
   pub can : (l : Lent) (q : PublicCall) → Exported file l q (meant file l q)
   can = allows_meant Exported exact file some

@@ -71,13 +71,23 @@ module _ (site : Site) (f : Free) (start tick goal dwell horizon r : ℕ) (well 
       (λ h. rw (h, lt-ltb (r - tick) (0 + suc n) (omega (arith, leb-true r horizon h))))
       (λ h. rw (h, le-ltb (r - tick) (0 + suc n) (omega (arith, leb-false r horizon h))))
 
+  -- the route is the one that is traced from that arrival
+  route_of : (o : Option ℕ) → arrival_in site f (node start tick) (horizon - tick) goal dwell ≡ o
+      → find_route site f (node start tick) goal dwell ≡ traced_route site (rows_to site f (node start tick) (horizon - tick)) (horizon - tick) (node start tick) goal o
+  unfolding find_route route_in
+  route_of o e =
+      ap (λ (h : ℕ). route_in site f (rows_to site f (node start tick) (h - tick)) (h - tick) (node start tick) goal dwell) same
+      ∙ ap (traced_route site (rows_to site f (node start tick) (horizon - tick)) (horizon - tick) (node start tick) goal) e
+
   pub route_there : r ≤ horizon → find_route site f (node start tick) goal dwell ≡ some (route_after site f (node start tick) goal (r - tick))
-  unfolding find_route route_in traced_route
-  route_there h = simp (same, first_arrival, le-leb r horizon h)
+  unfolding traced_route
+  route_there h =
+      route_of (some (r - tick)) (first_arrival ∙ ap (λ (b : Bool). cond b (some (r - tick)) none) (le-leb r horizon h))
+      ∙ ap (λ (h : ℕ). some (record { steps = trace site (rows_to site f (node start tick) (h - tick)) (h - tick) (suc (r - tick)) (r - tick) goal []; arrival = tick + (r - tick) })) (sym same)
 
   pub route_nowhere : suc horizon ≤ r → find_route site f (node start tick) goal dwell ≡ none
-  unfolding find_route route_in traced_route
-  route_nowhere h = simp (same, first_arrival, lt-leb r horizon h)
+  unfolding traced_route
+  route_nowhere h = route_of none (first_arrival ∙ ap (λ (b : Bool). cond b (some (r - tick)) none) (lt-leb r horizon h))
 
 -- ---- what `trace_back` requires
 

@@ -1,0 +1,9 @@
+-- `dispatch_c::dispatch_withdraw` meets its contract.
+-- Assumes nothing.
+use mathlib.Core.Path.{ap, ◌∙◌}
+use Rattle.answers.specs.Answers.{number_of}
+use Rattle.answers.proofs.Laws.{answer_number}
+use Rattle.dispatch_c.proofs.dispatch_withdraw.Goals as goal
+
+pub returns-clause-value : goal.returns-clause-value
+returns-clause-value c = c.answer_word.ensures ∙ ap number_of c.withdraw.ensures.value ∙ answer_number _

@@ -1,0 +1,12 @@
+-- `search_trace::trace_back` meets its contract: each turn is a clause of `trace`.
+-- Assumes nothing.
+use Prim.Native.Nat.{◌-◌}
+use Rattle.light_write.specs.Codes.{steps_in}
+use Rattle.search_trace.proofs.LoopLaws.{Going}
+use Rattle.search_trace.proofs.trace_back.Given as goal
+
+abbrev pub invariant-loop-t : goal.invariant-loop-t
+invariant-loop-t l = Going l.file l.board l.reached l.tick l.goal l.arrival l.s l.t (steps_in l.path l.count)
+
+abbrev pub decreases-loop-t : goal.decreases-loop-t
+decreases-loop-t l = l.t - l.tick
