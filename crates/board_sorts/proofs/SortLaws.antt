@@ -3,7 +3,7 @@
 use Prim.Native.Nat.{ℕ, zero, suc}
 use mathlib.Core.Path.{◌≡◌, refl, sym, ap, subst, ◌∙◌}
 use mathlib.Core.Bool.{Bool, true, false, cond}
-use mathlib.Core.Logic.{inl, inr}
+use mathlib.Core.Logic.{◌⊎◌, inl, inr}
 use mathlib.Core.List.{List, [], ◌∷◌}
 use denote.Enum.Declared.{tag_of}
 use types.Run.{OneOf}
@@ -43,6 +43,39 @@ pub arm : (test : Sort → Bool) (answer : Bool) (keys : List ℕ) (b : ℕ) (k 
     → OneOf keys (tag_of the_type k) → sort_case k ≡ sort_of b → Each (λ (n : ℕ). answer ≡ test (key_sort n)) keys → answer ≡ test (sort_of b)
 arm test answer keys b k met sorted each =
     at_key (λ (n : ℕ). answer ≡ test (key_sort n)) keys _ each met ∙ ap test (key_sort_lem k ∙ sorted)
+
+-- ---- the numbers that are left after an arm took its sorts
+
+pub rest_of_free : (k : Read.Sort) → (k ≡ Free → ⊥) → OneOf (1 ∷ 2 ∷ 3 ∷ []) (tag_of the_type k)
+rest_of_free Free other = absurd (other refl)
+rest_of_free Tug _ = inl refl
+rest_of_free Closure _ = inr (inl refl)
+rest_of_free Unknown _ = inr (inr refl)
+
+pub rest_of_tug : (k : Read.Sort) → (k ≡ Tug → ⊥) → OneOf (0 ∷ 2 ∷ 3 ∷ []) (tag_of the_type k)
+rest_of_tug Free _ = inl refl
+rest_of_tug Tug other = absurd (other refl)
+rest_of_tug Closure _ = inr (inl refl)
+rest_of_tug Unknown _ = inr (inr refl)
+
+pub rest_of_closure : (k : Read.Sort) → (k ≡ Closure → ⊥) → OneOf (0 ∷ 1 ∷ 3 ∷ []) (tag_of the_type k)
+rest_of_closure Free _ = inl refl
+rest_of_closure Tug _ = inr (inl refl)
+rest_of_closure Closure other = absurd (other refl)
+rest_of_closure Unknown _ = inr (inr refl)
+
+pub rest_of_holder : (k : Read.Sort) → (k ≡ Tug → ⊥) → (k ≡ Closure → ⊥) → OneOf (0 ∷ 3 ∷ []) (tag_of the_type k)
+rest_of_holder Free _ _ = inl refl
+rest_of_holder Tug other _ = absurd (other refl)
+rest_of_holder Closure _ other = absurd (other refl)
+rest_of_holder Unknown _ _ = inr refl
+
+-- the numbers of the sorts of a holder
+pub one_of_holder : (k : Read.Sort) → (k ≡ Tug) ⊎ (k ≡ Closure) → OneOf (1 ∷ 2 ∷ []) (tag_of the_type k)
+one_of_holder k (inl e) = inl (ap (tag_of the_type) e)
+one_of_holder k (inr e) = inr (ap (tag_of the_type) e)
+
+-- ---- the byte of nobody
 
 -- a byte sorts as free where it is 0
 abbrev pub free_sort : Sort → Bool
