@@ -1,5 +1,5 @@
 /* The release desk's calls for C (C99 and later) and C++ (C++11 and later), on Linux and x86-64. The archive is
- * libdispatch_c.a, made by `rt staticlib dispatch_c`. docs/FORMATS.md says what a site file, a board and a light are, byte
+ * libdispatch_c.a, made by `rt lib` in crates/dispatch_c. docs/FORMATS.md says what a site file, a board and a light are, byte
  * by byte, and what to do about each number.
  *
  * Slices. A slice is a pointer and a number of elements, not of bytes. A slice of 0 elements may be a null pointer.

@@ -13,7 +13,7 @@ fn main() {
     println!("cargo:rerun-if-env-changed=DISPATCH_LIB_DIR");
     let here = env::var_os("CARGO_MANIFEST_DIR").expect("cargo sets CARGO_MANIFEST_DIR");
     let named = env::var_os("DISPATCH_LIB_DIR").filter(|folder| !folder.is_empty());
-    let folder = named.map_or_else(|| Path::new(&here).join("../../target/staticlib"), PathBuf::from);
+    let folder = named.map_or_else(|| Path::new(&here).join("../../crates/dispatch_c/out"), PathBuf::from);
     // Cargo runs this in the package's own folder, not where the user is.
     if folder.is_relative() {
         stop(&format!("DISPATCH_LIB_DIR is {}; it has to be an absolute path.", folder.display()));
@@ -22,7 +22,7 @@ fn main() {
     println!("cargo:rerun-if-changed={}", archive.display());
     if !archive.is_file() {
         stop(&format!(
-            "There is no {}.\nMake it with `rt staticlib dispatch_c` in the repository of the release desk. If it is elsewhere, name its folder in \
+            "There is no {}.\nMake it with `rt lib` in crates/dispatch_c of the repository of the release desk. If it is elsewhere, name its folder in \
              DISPATCH_LIB_DIR, as an absolute path.",
             archive.display()
         ));

@@ -9,6 +9,11 @@ pub fn root() -> PathBuf {
     Path::new(env!("CARGO_MANIFEST_DIR")).join("..")
 }
 
+/// The archive of the calls, which `rt lib` makes.
+pub fn archive() -> PathBuf {
+    root().join("crates/dispatch_c/out/libdispatch_c.a")
+}
+
 /// Builds the program with a compiler and a standard, with every warning an error.
 pub fn build(compiler: &str, standard: &str, name: &str, source: &str) -> PathBuf {
     let folder = root().join("target/c");
@@ -22,7 +27,7 @@ pub fn build(compiler: &str, standard: &str, name: &str, source: &str) -> PathBu
         .args(["-x", language])
         .arg(&file)
         .args(["-x", "none"])
-        .arg(root().join("target/staticlib/libdispatch_c.a"))
+        .arg(archive())
         .arg("-o")
         .arg(&program)
         .output()

@@ -255,7 +255,7 @@ fn threads_with_just_the_stack() {
 /// The archive has no memory of its own that can be written, defines nothing for others but the calls, and needs one function of the C library.
 #[test]
 fn no_state() {
-    let done = Command::new("nm").arg(c::root().join("target/staticlib/libdispatch_c.a")).output().unwrap();
+    let done = Command::new("nm").arg(c::archive()).output().unwrap();
     assert!(done.status.success());
     let listed = String::from_utf8(done.stdout).unwrap();
     let symbols: Vec<Vec<&str>> =

@@ -304,10 +304,10 @@ fn archive_missing() {
     let empty = Path::new(env!("CARGO_TARGET_TMPDIR")).join("empty");
     fs::create_dir_all(&empty).unwrap();
     let said = build_with(empty.to_str().unwrap());
-    assert!(said.contains("empty/libdispatch_c.a") && said.contains("rt staticlib dispatch_c") && said.contains("DISPATCH_LIB_DIR"), "{said}");
-    let said = build_with("target/staticlib");
-    assert!(said.contains("DISPATCH_LIB_DIR is target/staticlib; it has to be an absolute path."), "{said}");
-    let there = fs::canonicalize(c::root().join("target/staticlib")).unwrap();
+    assert!(said.contains("empty/libdispatch_c.a") && said.contains("`rt lib` in crates/dispatch_c") && said.contains("DISPATCH_LIB_DIR"), "{said}");
+    let said = build_with("crates/dispatch_c/out");
+    assert!(said.contains("DISPATCH_LIB_DIR is crates/dispatch_c/out; it has to be an absolute path."), "{said}");
+    let there = fs::canonicalize(c::archive().parent().unwrap()).unwrap();
     for found in ["", there.to_str().unwrap()] {
         assert_eq!(build_with(found), "", "DISPATCH_LIB_DIR={found}");
     }

@@ -14,7 +14,7 @@ fn program() -> PathBuf {
     #[cfg(feature = "standin")]
     return PathBuf::from(env!("CARGO_BIN_EXE_day-standin"));
     #[cfg(not(feature = "standin"))]
-    return Path::new(env!("CARGO_MANIFEST_DIR")).join("../target/bin/day");
+    return Path::new(env!("CARGO_MANIFEST_DIR")).join("../crates/day/out/day");
 }
 
 /// The script with 0 for some bytes of the value of each field with this tag, as far as its fields are whole.

@@ -20,11 +20,11 @@ const TOOLS: [&str; 10] = ["awk", "bash", "cat", "dirname", "mktemp", "readlink"
 
 const HEADING: &str = "One line for each field of the script, or 0 0 0 if it is empty: number (0 if accepted), edition after, arrival";
 
-/// An `rt` that prints what `rt check day` prints if nothing has changed, shortened.
+/// An `rt` that prints what `rt run` prints in the day program's folder if nothing has changed.
 const UNCHANGED: &str = "\
-echo 'rt: meaning proved (unchanged since it was last proved)'
-echo 'rt: day proved (unchanged since it was last proved)'
-echo 'rt: ok, 2 crates proved'";
+echo 'rt: nothing has changed since the last proved build, by out/day.stamp, so nothing is checked now'
+echo 'rt: running out/day; to give it other input, run that file yourself'
+echo '3 0 0'";
 
 /// A command of the path, by its whole name.
 fn tool(name: &str) -> PathBuf {
@@ -104,31 +104,29 @@ impl Place {
         place
     }
 
-    /// For a copy of it, with other crates and without a program: `day` builds on two crates, one of them through the other.
-    fn copied_to(folder: PathBuf) -> Place {
+    /// For a copy of it, with other crates and without a program: `day` builds on two crates, one of them through the other. It is outside the
+    /// repository, where rt ci takes no second crates.txt.
+    fn copied(name: &str) -> Place {
+        let folder = std::env::temp_dir().join(format!("day_script_{}_{name}", std::process::id()));
         let place = Place::at(folder.clone(), folder.join("copy/day"));
         for file in ["day", "include/dispatch.h", "crates/day/data/site.bin", "crates/day/stdin"] {
             programs::copy(&c::root().join(file), &folder.join("copy").join(file));
         }
-        fs::write(folder.join("copy/crates.txt"), "# crates\none:\ntwo: one libc\n\nother: two one\nday: two one # itself\nafter: day\n").unwrap();
+        fs::write(folder.join("copy/crates.txt"), "# crates\none:\ntwo: one csv\n\nother: two one\nday: two one # itself\nafter staticlib: day\n").unwrap();
         place
-    }
-
-    fn copied(name: &str) -> Place {
-        Place::copied_to(Path::new(env!("CARGO_TARGET_TMPDIR")).join("day_script").join(name))
     }
 
     /// The program of a copy.
     fn program(&self) -> PathBuf {
-        self.folder.join("copy/target/bin/day")
+        self.folder.join("copy/crates/day/out/day")
     }
 
-    /// Puts an `rt` on the path that does this, once it has taken all of its input. It is to be asked for one thing, in the repository's folder.
+    /// Puts an `rt` on the path that does this, once it has taken all of its input. It is to be asked for one thing, in the day program's folder.
     fn rt(&self, does: &str) {
         let path = std::env::var("PATH").unwrap();
         programs::write(
             &self.folder.join("kit/rt"),
-            &format!("#!/bin/sh\nPATH='{path}'\ncat >/dev/null\n[ \"$*\" = 'check day' ] && [ -f crates.txt ] || exit 2\n{does}\n"),
+            &format!("#!/bin/sh\nPATH='{path}'\ncat >/dev/null\n[ \"${{PWD##*/}} $*\" = 'day run' ] && [ -f ../../crates.txt ] || exit 2\n{does}\n"),
         );
     }
 
@@ -164,6 +162,15 @@ impl Place {
             fs::write(folder.join("site.bin"), bytes).unwrap();
         }
         fs::write(folder.join("script"), script).unwrap();
+    }
+}
+
+impl Drop for Place {
+    /// A copy does not stay.
+    fn drop(&mut self) {
+        if self.day.starts_with(&self.folder) {
+            let _ = fs::remove_dir_all(&self.folder);
+        }
     }
 }
 
@@ -291,9 +298,9 @@ fn site_counts_as_empty() {
 /// Root can read every file. So for root a copy is run as nobody, as `rt` runs a program, where nobody can reach it.
 #[test]
 fn files_that_cannot_be_read() {
-    let place = Place::copied_to(std::env::temp_dir().join(format!("day_script_{}", std::process::id())));
+    let place = Place::copied("unreadable");
     place.rt(UNCHANGED);
-    programs::copy(&c::root().join("target/bin/day"), &place.program());
+    programs::copy(&c::root().join("crates/day/out/day"), &place.program());
     place.shift("shift", Some(&four::bytes()), &case_b(0));
     fs::create_dir(place.folder.join("tmp")).unwrap();
     programs::set_mode(&place.folder.join("tmp"), 0o777);
@@ -318,7 +325,6 @@ fn files_that_cannot_be_read() {
     programs::set_mode(&place.folder.join("shift"), 0o600);
     run(&["shift"]).stopped(2, &["'shift'", "can't be entered"]);
     programs::set_mode(&place.folder.join("shift"), 0o700);
-    fs::remove_dir_all(&place.folder).unwrap();
 }
 
 /// Each number that the program can print, with the reason behind its line.
@@ -458,14 +464,13 @@ fn bytes_and_status_of_the_program() {
 #[test]
 fn no_rt() {
     let place = Place::copied("no_rt");
-    place.run(&[], None).stopped(1, &["rt", "Rattle kit", "not on the path", "target/bin/day, and there is none."]);
+    place.run(&[], None).stopped(1, &["rt", "Rattle kit", "not on the path", "crates/day/out/day, and there is none."]);
     programs::write(&place.program(), "#!/bin/sh\necho '0 1 0'\n");
-    place.run(&[], None).stopped(1, &["rt", "Rattle kit", "not on the path", "target/bin/day."]);
+    place.run(&[], None).stopped(1, &["rt", "Rattle kit", "not on the path", "crates/day/out/day."]);
     place.rt(UNCHANGED);
     assert_eq!(place.run(&[], None).out, "0 1 0\n");
 }
 
-/// A line for each crate that is proved now, when it is reported; none for the others.
 /// Two at a time in one clone: the second one waits until the first has proved, and says so.
 #[test]
 fn one_at_a_time() {
@@ -483,6 +488,7 @@ fn one_at_a_time() {
     assert_eq!(fs::read_to_string(place.folder.join("log")).unwrap(), "begins\nends\nbegins\nends\n");
 }
 
+/// A line for each crate that is proved now, when it is reported; none for the others.
 #[test]
 fn progress() {
     let place = Place::copied("progress");
@@ -490,15 +496,23 @@ fn progress() {
     let (bin, go) = (program.parent().unwrap().display().to_string(), place.folder.join("go"));
     // It goes on when the file is there, and gives up after half a minute.
     place.rt(&format!(
-        "echo 'rt: one proved (unchanged since it was last proved)'
-        echo 'logic=proved'
-        echo 'rt: two proved (3 s)'
+        "echo 'fn one::first: proved'
+        echo 'crate one: modules loaded=40 checked=0'
+        echo 'logic=proved functions=1 native=nat,char,string logic-built=trusted'
+        echo 'rt: chose --jobs 2 for two'
+        echo 'fn two::second: proved'
+        echo 'library one: modules loaded=23 checked=0'
+        sleep 2
+        echo 'crate two: modules loaded=0 checked=33'
+        echo 'logic=proved functions=1 native=nat,char,string logic-built=trusted'
         tries=0
         until [ -e '{}' ]; do sleep 0.1; tries=$((tries + 1)); [ $tries -lt 300 ] || exit 2; done
         mkdir -p '{bin}' && printf '#!/bin/sh\\ncat\\n' >'{bin}/day' && chmod +x '{bin}/day'
-        echo 'rt: day proved (61 s)'
-        echo \"rt: day ran as nobody, and wrote what its file 'stdout' has (0 s)\"
-        echo 'rt: ok, 3 crates proved'",
+        echo 'crate day: modules loaded=23 checked=31'
+        echo 'axioms std: none reached of the 2 declared'
+        echo 'logic=proved functions=1 axioms=3 target=x86_64-unknown-linux-gnu'
+        echo 'rt: running out/day; to give it other input, run that file yourself'
+        echo '3 0 0'",
         go.display()
     ));
     let mut child = programs::start(place.command(&["-"]).stdin(Stdio::piped()));
@@ -512,8 +526,10 @@ fn progress() {
     let done = child.wait_with_output().unwrap();
     all.extend(said);
     assert!(done.status.success() && done.stdout == b"0 1 0\n", "{all:?}");
-    assert!(all[0].contains("3 crates") && all[0].contains("4 to 6 minutes the first time"), "{all:?}");
-    assert_eq!(all[1..3], ["  proved 2 of 3: two (3 s)", "  proved 3 of 3: day (61 s)"]);
+    assert!(all[0].contains("3 crates") && all[0].contains("minutes the first time"), "{all:?}");
+    let seconds = |line: &str, start: &str| -> u64 { line.strip_prefix(start).and_then(|rest| rest.strip_suffix(" s)")).unwrap().parse().unwrap() };
+    assert!((1..60).contains(&seconds(&all[1], "  proved 2 of 3: two (")), "{all:?}");
+    assert!((0..60).contains(&seconds(&all[2], "  proved 3 of 3: day (")), "{all:?}");
     assert!(all[3].starts_with("Site: "), "{all:?}");
     // The second time nothing is proved.
     place.rt(UNCHANGED);
@@ -526,7 +542,8 @@ fn progress() {
 #[test]
 fn not_built() {
     let place = Place::copied("not_built");
-    let report = "rt: one proved (2 s)\nerror: a goal\n  of two lines\nrt: two NOT PROVED (exit 1, 3 s)\nrt: FAILED: two\n";
+    let report = "crate one: modules loaded=0 checked=40\nlogic=proved functions=1\nerror: a goal\n  of two lines\n\
+        logic=not-proved functions=1\nrt: the library two did not build, so nothing above it was checked\n";
     place.rt(&format!("printf '%s' '{report}' >&2; exit 1"));
     for earlier in [false, true] {
         if earlier {
@@ -537,9 +554,9 @@ fn not_built() {
         assert!(done.err.ends_with(&format!("{report}The day program was not built.\n")), "{done:?}");
     }
     // A success without a program.
-    place.rt("echo 'rt: ok, 0 crates proved'");
+    place.rt("echo 'logic=proved functions=0'");
     fs::remove_file(place.program()).unwrap();
     let done = place.run(&[], None);
     assert!(done.status == Some(1) && done.out.is_empty(), "{done:?}");
-    assert!(done.err.ends_with("rt: ok, 0 crates proved\nThe day program was not built.\n"), "{done:?}");
+    assert!(done.err.ends_with("logic=proved functions=0\nThe day program was not built.\n"), "{done:?}");
 }

@@ -323,10 +323,11 @@ fn links() {
     assert!(seen >= 20, "only {seen} links");
 }
 
-/// The files of a folder and of those below it, but for target/.
+/// The files of a folder and of those below it, but for target/ and a crate's out/, which are made.
 fn files(folder: &Path, found: &mut Vec<PathBuf>) {
     for path in fs::read_dir(folder).unwrap().map(|entry| entry.unwrap().path()) {
-        if path.is_dir() && path.file_name().unwrap() != "target" {
+        let made = ["target", "out"].iter().any(|made| path.file_name().unwrap() == *made);
+        if path.is_dir() && !made {
             files(&path, found);
         } else if path.is_file() {
             found.push(path);

@@ -23,7 +23,7 @@ struct Names {
 }
 
 fn is_name(c: char) -> bool {
-    c.is_alphanumeric() || c == '-' || c == '_' || c == '′'
+    c.is_alphanumeric() || c == '-' || c == '_' || c == '\''
 }
 
 /// The first name of a text, after any of these words.
@@ -31,10 +31,11 @@ fn first_name<'a>(text: &'a str, skipped: &[&str]) -> &'a str {
     text.split(|c: char| !is_name(c)).find(|word| !word.is_empty() && !skipped.contains(word)).unwrap_or("")
 }
 
+/// The files of a folder, but for what is made: target/, and the out/ of a crate, in which rt keeps copies and libraries.
 fn walk(folder: &Path, found: &mut Vec<PathBuf>) {
     for entry in fs::read_dir(folder).unwrap().map(|entry| entry.unwrap().path()) {
         if entry.is_dir() {
-            if entry.file_name().unwrap() != "target" {
+            if !["target", "out"].iter().any(|made| entry.file_name().unwrap() == *made) {
                 walk(&entry, found);
             }
         } else {
@@ -46,9 +47,12 @@ fn walk(folder: &Path, found: &mut Vec<PathBuf>) {
 impl Names {
     fn of(root: PathBuf) -> Names {
         let mut names = Names { root: root.clone(), ..Names::default() };
-        for line in fs::read_to_string(root.join("crates.txt")).unwrap().lines().filter(|line| !line.starts_with('#')) {
+        // It is always there, and listed nowhere.
+        names.libraries.insert("std".to_string());
+        // dispatch_c staticlib: dispatch draw_c ..
+        for line in fs::read_to_string(root.join("crates.txt")).unwrap().lines().map(|line| line.split('#').next().unwrap()) {
             let Some((name, builds_on)) = line.split_once(':') else { continue };
-            names.crates.insert(name.to_string());
+            names.crates.insert(first_name(name, &[]).to_string());
             names.libraries.extend(builds_on.split_whitespace().map(str::to_string));
         }
         let mut found = Vec::new();

@@ -531,7 +531,7 @@ fn day_script() {
     let asked = kit.join("asked");
     let rt = |does: &str| {
         let _ = fs::remove_file(&asked);
-        programs::write(&kit.join("rt"), &format!("#!/bin/sh\ncat >/dev/null\necho \"$*\" >>'{}'\n{does}\n", asked.display()));
+        programs::write(&kit.join("rt"), &format!("#!/bin/sh\ncat >/dev/null\necho \"${{PWD##*/}}: $*\" >>'{}'\n{does}\n", asked.display()));
     };
     let path = |rest: &[PathBuf]| std::env::join_paths([&kit].into_iter().chain(rest)).unwrap();
     let whole: Vec<PathBuf> = std::env::split_paths(&std::env::var_os("PATH").unwrap()).collect();
@@ -539,14 +539,14 @@ fn day_script() {
         let folder = place.folder.parent().unwrap();
         finish(Command::new(c::root().join("day")).args(words).env("PATH", path).env("DISPATCH_LIB_DIR", "/nowhere").current_dir(folder))
     };
-    rt("echo 'rt: day proved (unchanged since it was last proved)'");
+    rt("echo 'rt: nothing has changed since the last proved build, by out/day.stamp, so nothing is checked now'");
     let plain = day(&["day"], &path(&whole));
     assert!(plain.status == Some(0) && plain.out == "0 1 0\n0 1 10\n0 2 0\n12 2 0\n", "{plain:?}");
     assert_eq!(place.names(), ["script", "site.bin"]);
     let drawn = day(&["--picture", "day"], &path(&whole));
     assert!(drawn.status == Some(0) && drawn.out == plain.out && drawn.err.starts_with(&plain.err), "{drawn:?}");
     assert!(drawn.err.ends_with("closures: 1; ticks 0 to 12 in 3.25 seconds, and again\n"), "{drawn:?}");
-    assert_eq!(fs::read_to_string(&asked).unwrap(), "check day\ncheck day\nstaticlib dispatch_c\n");
+    assert_eq!(fs::read_to_string(&asked).unwrap(), "day: run\nday: run\ndispatch_c: lib\n");
     let by_day = fs::read(place.file("shift.svg")).unwrap();
     place.picture();
     assert!(by_day == fs::read(place.file("shift.svg")).unwrap(), "another picture");
@@ -584,7 +584,7 @@ fn day_script() {
     assert!(done.status == Some(1) && done.out.is_empty() && done.err.lines().count() == 1, "{done:?}");
     assert!(done.err.contains("cargo") && done.err.contains("not on the path") && !asked.exists(), "{done:?}");
     fs::write(place.file("site.bin"), hall(12, &CENTRES)).unwrap();
-    rt("[ \"$1\" = check ] && exit\necho 'error: a goal'\nexit 1");
+    rt("[ \"$1\" = run ] && exit\necho 'error: a goal'\nexit 1");
     let done = day(&["--picture", "day"], &path(&whole));
     assert!(done.status == Some(1) && done.out == plain.out && done.err.ends_with("error: a goal\nThe archive was not built.\n"), "{done:?}");
     assert_eq!(place.names(), ["script", "site.bin"]);

@@ -182,7 +182,7 @@ mod built {
         let path = folder.join("input");
         fs::write(&path, "7\n".repeat(512)).unwrap();
         let mut input = File::open(&path).unwrap();
-        let program = c::root().join("target/bin/travel_generator");
+        let program = c::root().join("crates/travel_generator/out/travel_generator");
         let done = Command::new(&program)
             .current_dir(&folder)
             .stdin(Stdio::from(input.try_clone().unwrap()))

@@ -4,8 +4,8 @@
 //! reads words. docs/FORMATS.md of the repository says what a site file, a board and a light are, byte by byte, and what to do about each
 //! refusal.
 //!
-//! The archive is made by `rt staticlib dispatch_c`. It is found in `target/staticlib` of the repository in which this package stands, or in
-//! the folder that the environment variable DISPATCH_LIB_DIR names by an absolute path. Linux on x86-64 alone.
+//! The archive is made by `rt lib` in `crates/dispatch_c`. It is found in `crates/dispatch_c/out` of the repository in which this package stands,
+//! or in the folder that the environment variable DISPATCH_LIB_DIR names by an absolute path. Linux on x86-64 alone.
 //!
 //! ```
 //! use dispatch::{Desk, Refusal, Trip};
