@@ -7,7 +7,7 @@ use native.Mathlib.Omega.{arith}
 use lib.ListN.{length, get_or}
 use Rattle.meaning.specs.Limits.{sweep_size}
 use Rattle.meaning.specs.Answers.{accepted}
-use Rattle.meaning.specs.Site.{Sweep, Motion, Site, site_of, read_site, motion_at}
+use Rattle.meaning.specs.Site.{Sweep, Site, site_of, read_site, motion_at}
 use Rattle.meaning.specs.WellFormed.{WellFormed}
 use Rattle.meaning.proofs.BasicsLaws.{each_at}
 use Rattle.meaning.proofs.SiteLaws.{read_well, read_passes}
