@@ -24,6 +24,7 @@ fn head_then_steps(s: &[u8], h: Header) -> bool
 }
 
 // The bytes are a light.
+#[tactic(auto, using(crate::proofs::HeadLaws::light_long))]
 pub fn is_light(s: &[u8]) -> bool
     ensures { result ≡ is_light s.now }
 {

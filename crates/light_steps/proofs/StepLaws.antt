@@ -54,6 +54,9 @@ module _ (tag len n later : ℕ) (size : len ≡ step_size) where
   unfolding step_in
   in_wait e p = rw (e, size, not_zero n p)
 
+-- these laws together, by which the code that reads a field is proved
+pub ruleset in_field = (in_size, in_move, in_other, in_zero, in_wait)
+
 -- only a field of the right size is looked into
 in_same : (tag len n m later : ℕ) → (len ≡ step_size → n ≡ m) → step_in tag len n later ≡ step_in tag len m later
 in_same tag len n m later h =

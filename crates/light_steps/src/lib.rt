@@ -17,6 +17,7 @@ pub enum Step {
 }
 
 // The step whose field has this header.
+#[tactic(auto, using(crate::proofs::StepLaws::in_field))]
 fn step_in(s: &[u8], h: Header) -> Step
     requires { h.start + h.len ≤ length s.now }
     ensures { result ≡ step_in h.tag h.len (u16_at s.now h.start) h.next }

@@ -11,7 +11,8 @@ pub loop-at-init : goal.loop-at-init
 loop-at-init c = (search rules, ap complete (whole_at _))
 
 pub loop-at-smaller : goal.loop-at-smaller
-loop-at-smaller c = let f = c.args.s.now in
+loop-at-smaller c =
+    let f = c.args.s.now in
     let l = c.loop-at in
     let w = is_field f l.at _ (sym c.in-Field.is ∙ c.read_item.ensures) in
     let i = w.inside in
@@ -19,21 +20,25 @@ loop-at-smaller c = let f = c.args.s.now in
     omega arith
 
 pub loop-at-preserved : goal.loop-at-preserved
-loop-at-preserved c = let f = c.args.s.now in
+loop-at-preserved c =
+    let f = c.args.s.now in
     let l = c.loop-at in
     let w = is_field f l.at _ (sym c.in-Field.is ∙ c.read_item.ensures) in
     (w.inside, sym (whole_complete f _ _ w) ∙ l.invariant.1)
 
 pub returns-in-Cut : goal.returns-in-Cut
-returns-in-Cut c = let l = c.loop-at in
+returns-in-Cut c =
+    let l = c.loop-at in
     let e = is_cut c.args.s.now l.at (sym c.in-Cut.is ∙ c.read_item.ensures) in
     sym (cut_incomplete c.args.s.now l.at e) ∙ l.invariant.1
 
 pub returns-in-End : goal.returns-in-End
-returns-in-End c = let l = c.loop-at in
+returns-in-End c =
+    let l = c.loop-at in
     let e = is_end c.args.s.now l.at (sym c.in-End.is ∙ c.read_item.ensures) in
     sym (complete_end c.args.s.now l.at e) ∙ l.invariant.1
 
 pub returns : goal.returns
-returns c = let l = c.loop-at in
+returns c =
+    let l = c.loop-at in
     sym (complete_end c.args.s.now l.at (omega arith)) ∙ l.invariant.1

@@ -5,7 +5,8 @@ use native.Mathlib.Omega.{arith}
 use Rattle.light_read.proofs.head_value.Goals as goal
 
 pub header_at-h-requires : goal.header_at-h-requires
-header_at-h-requires c = let a = accepted _ c.requires in
+header_at-h-requires c =
+    let a = accepted _ c.requires in
     let r = a.room in
     (a.whole, omega arith)
 

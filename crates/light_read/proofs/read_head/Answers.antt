@@ -5,7 +5,8 @@ use Rattle.light_read.proofs.HeadLaws.{head_numbers}
 use Rattle.light_read.proofs.read_head.Goals as goal
 
 pub returns : goal.returns
-returns c = let s = c.args.s.now in
+returns c =
+    let s = c.args.s.now in
     head_numbers
     s
     c.requires

@@ -7,14 +7,16 @@ use native.Mathlib.Omega.{arith}
 use Rattle.light_steps.proofs.step_at.Goals as goal
 
 pub step_in-requires : goal.step_in-requires
-step_in-requires c = let w = is_field c.args.s.now c.args.at _ (sym c.in-Field.is ∙ c.read_item.ensures) in
+step_in-requires c =
+    let w = is_field c.args.s.now c.args.at _ (sym c.in-Field.is ∙ c.read_item.ensures) in
     let i = w.inside in
     let n = w.next in
     let f = w.start in
     omega arith
 
 pub returns-in-Field : goal.returns-in-Field
-returns-in-Field c = let w = is_field c.args.s.now c.args.at _ (sym c.in-Field.is ∙ c.read_item.ensures) in
+returns-in-Field c =
+    let w = is_field c.args.s.now c.args.at _ (sym c.in-Field.is ∙ c.read_item.ensures) in
     c.step_in.ensures ∙ at_field_step _ _ _ w
 
 pub returns-in-Cut : goal.returns-in-Cut

@@ -8,6 +8,7 @@ use native.Mathlib.Omega.{arith}
 use Rattle.light_write.proofs.write_light.Goals as goal
 
 pub returns : goal.returns
-returns c = c.write_head.ensures
+returns c =
+    c.write_head.ensures
     ∙ light_written (light_with c.args.head (steps_in c.args.path.now c.args.count)) c.args.count c.args.out.now _
     (length_steps c.args.path.now c.args.count) (omega arith) c.write_steps.ensures
