@@ -8,7 +8,7 @@ use mathlib.Core.Option.{Option, some}
 use mathlib.Core.List.{List, [], ◌++◌, append-nil}
 use lib.ListN.{length, take, drop}
 use contract.Lifetimes.{Lfts}
-use denote.Ref.{Bor}
+use denote.Ref.{Bor, MutBor}
 use Rattle.meaning.specs.Basics.{Bytes}
 use Rattle.meaning.specs.Fields.{fields}
 use Rattle.meaning.specs.Day.{line, Day, text_of, texts, day_text, piece, line_next, day_next}
@@ -26,13 +26,15 @@ use Rattle.day_turns.proofs.turn.Reads as turn_reads
 -- `TurnsPrint file first rest day text`: turn after turn over the rest of a script, the first or later ones, each handed the piece that is
 -- next, until one says that it was the last. A turn prints the front of the line that it is lent.
 pub data TurnsPrint : List ℕ → Bool → List ℕ → Day → List ℕ → Type 0 where
-  last : (κs : Lfts 6) (file board out words bytes line file' board' out' words' bytes' line' : Bor (List ℕ)) (light light' : ℕ) (first first' : Bool)
+  last : (κs : Lfts 6) (file : Bor (List ℕ)) (board out words : MutBor (List ℕ)) (bytes : Bor (List ℕ)) (line : MutBor (List ℕ))
+      (file' : Bor (List ℕ)) (board' out' words' : MutBor (List ℕ)) (bytes' : Bor (List ℕ)) (line' : MutBor (List ℕ)) (light light' : ℕ) (first first' : Bool)
       (rest : List ℕ) (r : Outcome)
       → bytes.now ≡ piece rest
       → turn_reads.Learnt κs (file, (board, (out, (words, (light, (first, (bytes, (line, tt)))))))) r (file', (board', (out', (words', (light', (first', (bytes', (line', tt))))))))
       → r.going ≡ false
       → TurnsPrint file.now first rest (day_at board.now out.now light) (take r.text line'.now)
-  next : (κs : Lfts 6) (file board out words bytes line file' board' out' words' bytes' line' : Bor (List ℕ)) (light light' : ℕ) (first first' : Bool)
+  next : (κs : Lfts 6) (file : Bor (List ℕ)) (board out words : MutBor (List ℕ)) (bytes : Bor (List ℕ)) (line : MutBor (List ℕ))
+      (file' : Bor (List ℕ)) (board' out' words' : MutBor (List ℕ)) (bytes' : Bor (List ℕ)) (line' : MutBor (List ℕ)) (light light' : ℕ) (first first' : Bool)
       (rest text : List ℕ) (r : Outcome)
       → bytes.now ≡ piece rest
       → turn_reads.Learnt κs (file, (board, (out, (words, (light, (first, (bytes, (line, tt)))))))) r (file', (board', (out', (words', (light', (first', (bytes', (line', tt))))))))
@@ -42,10 +44,10 @@ pub data TurnsPrint : List ℕ → Bool → List ℕ → Day → List ℕ → Ty
 
 -- `RunPrints file script text`: the line of a refused opening, or the turns on the board that was opened, with no light yet
 pub data RunPrints : List ℕ → List ℕ → List ℕ → Type 0 where
-  refused : (κs : Lfts 3) (file area line file' area' line' : Bor (List ℕ)) (script : List ℕ) (n : ℕ)
+  refused : (κs : Lfts 3) (file : Bor (List ℕ)) (area line : MutBor (List ℕ)) (file' : Bor (List ℕ)) (area' line' : MutBor (List ℕ)) (script : List ℕ) (n : ℕ)
       → start_reads.Learnt κs (file, (area, (line, tt))) (Refused n) (file', (area', (line', tt)))
       → RunPrints file.now script (take n line'.now)
-  opened : (κs : Lfts 3) (file area line file' area' line' : Bor (List ℕ)) (script text : List ℕ) (n : ℕ)
+  opened : (κs : Lfts 3) (file : Bor (List ℕ)) (area line : MutBor (List ℕ)) (file' : Bor (List ℕ)) (area' line' : MutBor (List ℕ)) (script text : List ℕ) (n : ℕ)
       → start_reads.Learnt κs (file, (area, (line, tt))) (Opened n) (file', (area', (line', tt)))
       → TurnsPrint file.now true script (day_at (take n area'.now) [] 0) text
       → RunPrints file.now script text
