@@ -1,7 +1,8 @@
 -- `search_step::wait_one` meets its contract: a state that does not stand has no waits, and else the block of its row is filled.
 -- Assumes nothing.
 use native.Mathlib.Omega.{arith}
-use mathlib.Core.Path.{sym, ◌∙◌}
+use mathlib.Core.Path.{◌≡◌}
+use Rattle.search_site.specs.Arrays.{speed_at}
 use Rattle.search_step.proofs.StepLaws.{fill_set, fill_within, fill_closed}
 use Rattle.search_step.proofs.wait_one.Goals as goal
 
@@ -14,7 +15,7 @@ returns-clause-row_set c =
 pub returns-clause-by_index : goal.returns-clause-by_index
 returns-clause-by_index c g k mv sw right =
     let a = c.args in
-    let stands = sym c.speed_of.ensures ∙ c.if-speed_of-ne0.false in
+    let stands : speed_at a.states.now a.s ≡ 0 = omega arith in
     let is_cell = c.cell_of-cell.ensures in
     let known_cell = c.requires.states.1.0 a.s c.requires.states.1.1 in
     let l' = c.fill.new.l in
