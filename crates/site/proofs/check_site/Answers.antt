@@ -13,28 +13,26 @@ use Rattle.site.proofs.check_site.Goals as goal
 
 -- a file that is short enough
 pub returns-then-not-fields_complete : goal.returns-then-not-fields_complete
-returns-then-not-fields_complete c = let f = c.args.file.now in
+returns-then-not-fields_complete c =
+    let f = c.args.file.now in
     let w : complete (fields f) ≡ false = sym c.fields_complete.ensures ∙ c.if-not-fields_complete.true in
     sym (number_2 f (omega arith) w)
 
 pub returns-then-file-gt-FILE_LIMIT : goal.returns-then-file-gt-FILE_LIMIT
-returns-then-file-gt-FILE_LIMIT c = let f = c.args.file.now in
+returns-then-file-gt-FILE_LIMIT c =
+    let f = c.args.file.now in
     sym (number_1 f c.if-file-gt-FILE_LIMIT.true)
 
 pub returns-then-not-head_good : goal.returns-then-not-head_good
-returns-then-not-head_good c = let f = c.args.file.now in
+returns-then-not-head_good c =
+    let f = c.args.file.now in
     let w : complete (fields f) ≡ true = sym c.fields_complete.ensures ∙ c.if-not-fields_complete.false in
     let g : head_good (head_of f) ≡ false = sym c.head_good.ensures ∙ c.if-not-head_good.true in
     sym (number_3 f (omega arith) w g)
 
-pub read_head-head-requires : goal.read_head-head-requires
-read_head-head-requires c = let f = c.args.file.now in
-    let w : complete (fields f) ≡ true = sym c.fields_complete.ensures ∙ c.if-not-fields_complete.false in
-    let g : head_good (head_of f) ≡ true = sym c.head_good.ensures ∙ c.if-not-head_good.false in
-    (w, g)
-
 pub layout_good-requires : goal.layout_good-requires
-layout_good-requires c = let f = c.args.file.now in
+layout_good-requires c =
+    let f = c.args.file.now in
     let w : complete (fields f) ≡ true = sym c.fields_complete.ensures ∙ c.if-not-fields_complete.false in
     let g : head_good (head_of f) ≡ true = sym c.head_good.ensures ∙ c.if-not-head_good.false in
     let x = head_here f w g in
@@ -42,7 +40,8 @@ layout_good-requires c = let f = c.args.file.now in
     (ap (λ (k : ℕ). complete (fields_at f k)) s ∙ x.whole, rw s x.long)
 
 pub returns-then-not-layout_good : goal.returns-then-not-layout_good
-returns-then-not-layout_good c = let f = c.args.file.now in
+returns-then-not-layout_good c =
+    let f = c.args.file.now in
     let w : complete (fields f) ≡ true = sym c.fields_complete.ensures ∙ c.if-not-fields_complete.false in
     let g : head_good (head_of f) ≡ true = sym c.head_good.ensures ∙ c.if-not-head_good.false in
     let r = c.read_head-head in
@@ -51,13 +50,11 @@ returns-then-not-layout_good c = let f = c.args.file.now in
     sym (number_4 f (omega arith) w g t)
 
 pub check_values-requires : goal.check_values-requires
-check_values-requires c = let f = c.args.file.now in
+check_values-requires c =
+    let f = c.args.file.now in
     let w : complete (fields f) ≡ true = sym c.fields_complete.ensures ∙ c.if-not-fields_complete.false in
     let g : head_good (head_of f) ≡ true = sym c.head_good.ensures ∙ c.if-not-head_good.false in
     let r = c.read_head-head in
     let x = head_here f w g in
     let t : layout_good (site_of f).cells (state_count f) (later_of f) ≡ true = layout_same f r.result x r.ensures ∙ sym c.layout_good.ensures ∙ c.if-not-layout_good.false in
     (omega arith, record { whole = w; head = g; layout = t }, r.ensures)
-
-pub returns : goal.returns
-returns c = c.check_values.ensures

@@ -11,7 +11,8 @@ use native.Mathlib.Omega.{arith}
 use Rattle.site.proofs.check_values.Goals as goal
 
 pub state_place-start-requires : goal.state_place-start-requires
-state_place-start-requires c = let p = c.requires in
+state_place-start-requires c =
+    let p = c.requires in
     let f = c.args.file.now in
     let h = c.args.head in
     let e = p.2.states in
@@ -19,21 +20,21 @@ state_place-start-requires c = let p = c.requires in
     omega arith
 
 pub states_good-states_pass-requires : goal.states_good-states_pass-requires
-states_good-states_pass-requires c = let p = c.requires in
+states_good-states_pass-requires c =
+    let p = c.requires in
     let f = c.args.file.now in
     let h = c.args.head in
     (p.1, count_is f p.1 h p.2)
 
 -- where the motions start, and how many they are
 pub leading_motions-leading-requires : goal.leading_motions-leading-requires
-leading_motions-leading-requires c = let p = c.requires in
+leading_motions-leading-requires c =
+    let p = c.requires in
     motions_start c.args.file.now p.1 c.args.head p.2 _ c.state_place-start.ensures
 
-pub count_fields-centres-requires : goal.count_fields-centres-requires
-count_fields-centres-requires c = let r = c.leading_motions-leading.ensures in (r.whole, r.inside)
-
 pub motions_good-motions_pass-requires : goal.motions_good-motions_pass-requires
-motions_good-motions_pass-requires c = let p = c.requires in
+motions_good-motions_pass-requires c =
+    let p = c.requires in
     let f = c.args.file.now in
     let h = c.args.head in
     let place = c.state_place-start.ensures in

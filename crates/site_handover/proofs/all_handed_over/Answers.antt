@@ -11,12 +11,14 @@ pub loop-j-init : goal.loop-j-init
 loop-j-init c = below_zero _
 
 pub returns-then-next-j : goal.returns-then-next-j
-returns-then-next-j c = let l = c.loop-j in
+returns-then-next-j c =
+    let l = c.loop-j in
     sym (below_miss (handover (sweeps_at c.args.file.now c.args.at c.args.count)) c.args.span l.j (omega arith) (c.handed_to-next.ensures.1 (omega arith)))
 
 pub loop-j-preserved : goal.loop-j-preserved
 loop-j-preserved c = linked_below _ _ _ c.loop-j.invariant c.handed_to-next.ensures.0
 
 pub returns : goal.returns
-returns c = let l = c.loop-j in
+returns c =
+    let l = c.loop-j in
     sym (below_less (handover (sweeps_at c.args.file.now c.args.at c.args.count)) c.args.span l.j (omega arith) l.invariant)

@@ -6,7 +6,8 @@ use Rattle.site_handover.proofs.sweeps_pass.Goals as goal
 
 pub returns-then-used-2 : goal.returns-then-used-2
 unfolding sweeps_good
-returns-then-used-2 c = simp (sym c.sweeps_good.ensures ∙ c.if-sweeps_good.true, sym c.used.ensures ∙ c.if-used.true, sym c.used-then-used.ensures ∙ c.if-used-2.true)
+returns-then-used-2 c =
+    simp (sym c.sweeps_good.ensures ∙ c.if-sweeps_good.true, sym c.used.ensures ∙ c.if-used.true, sym c.used-then-used.ensures ∙ c.if-used-2.true)
     c.all_handed_over.ensures
 
 pub returns-else-used-2 : goal.returns-else-used-2

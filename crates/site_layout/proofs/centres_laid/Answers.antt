@@ -15,11 +15,9 @@ use Rattle.site_layout.proofs.Laws.{first_of}
 use native.Mathlib.Omega.{arith}
 use Rattle.site_layout.proofs.centres_laid.Goals as goal
 
-pub loop-at-init : goal.loop-at-init
-loop-at-init c = (c.requires.1, omega arith, c.requires.0, omega arith, refl)
-
 pub loop-at-preserved : goal.loop-at-preserved
-loop-at-preserved c = let l = c.loop-at in
+loop-at-preserved c =
+    let l = c.loop-at in
     let x = c.next_field-at.ensures in
     let size = ap length x.list in
     let t = sym (first_of is_centre _ _ _ x.list) ∙ sym c.is_centre.ensures ∙ c.if-is_centre.true in
@@ -27,7 +25,8 @@ loop-at-preserved c = let l = c.loop-at in
 
 pub returns-else-is_centre : goal.returns-else-is_centre
 unfolding centres_laid
-returns-else-is_centre c = let l = c.loop-at in
+returns-else-is_centre c =
+    let l = c.loop-at in
     let x = next_is c.args.file.now l.at _ _ l.invariant.2 (omega arith) refl refl in
     let t = sym (first_of is_centre _ _ _ x.list) ∙ sym c.is_centre.ensures ∙ c.if-is_centre.false in
     simp (sym l.invariant.4 ∙ fields_all_miss is_centre _ _ _ x.list t)
@@ -43,12 +42,14 @@ module _ (file : List ℕ) (start n at : ℕ) where
 
 pub returns-then-n-cells : goal.returns-then-n-cells
 unfolding centres_laid
-returns-then-n-cells c = let l = c.loop-at in
+returns-then-n-cells c =
+    let l = c.loop-at in
     let file = c.args.file.now in
     simp (all_there file c.args.start l.n l.at (omega arith) l.invariant.4, size_there file c.args.start l.n l.at (omega arith) l.invariant.3, eq-eqb l.n c.args.cells c.if-n-cells.true)
 
 pub returns : goal.returns
 unfolding centres_laid
-returns c = let l = c.loop-at in
+returns c =
+    let l = c.loop-at in
     let file = c.args.file.now in
     simp (all_there file c.args.start l.n l.at (omega arith) l.invariant.4, size_there file c.args.start l.n l.at (omega arith) l.invariant.3, ne_eqb l.n c.args.cells c.if-n-cells.false)

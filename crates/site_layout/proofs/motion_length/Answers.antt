@@ -15,22 +15,26 @@ use Rattle.site_layout.proofs.motion_length.Goals as goal
 -- the lengths that are taken
 pub returns : goal.returns
 unfolding motion_length
-returns c = let n = c.args.len in
+returns c =
+    let n = c.args.len in
     let h : within 1 sweep_limit (sweep_count n) ≡ true = sym (ap (within 1 sweep_limit) c.sweep_count-count.ensures) ∙ sym c.in_range.ensures ∙ c.if-not-in_range.false in
     simp h (ap (λ (k : ℕ). eqb n (motion_size + sweep_size * k)) c.sweep_count-count.ensures)
 
 pub returns-then-not-in_range : goal.returns-then-not-in_range
 unfolding motion_length
-returns-then-not-in_range c = let n = c.args.len in
+returns-then-not-in_range c =
+    let n = c.args.len in
     let h : within 1 sweep_limit (sweep_count n) ≡ false = sym (ap (within 1 sweep_limit) c.sweep_count-count.ensures) ∙ sym c.in_range.ensures ∙ c.if-not-in_range.true in
     simp h
 
 pub overflow_mul-result : goal.overflow_mul-result
-overflow_mul-result c = let h = within_range 1 sweep_limit c.sweep_count-count.result (sym c.in_range.ensures ∙ c.if-not-in_range.false) in
+overflow_mul-result c =
+    let h = within_range 1 sweep_limit c.sweep_count-count.result (sym c.in_range.ensures ∙ c.if-not-in_range.false) in
     let m = h.1 in
     omega arith
 
 pub overflow_add-result : goal.overflow_add-result
-overflow_add-result c = let h = within_range 1 sweep_limit c.sweep_count-count.result (sym c.in_range.ensures ∙ c.if-not-in_range.false) in
+overflow_add-result c =
+    let h = within_range 1 sweep_limit c.sweep_count-count.result (sym c.in_range.ensures ∙ c.if-not-in_range.false) in
     let m = h.1 in
     omega arith

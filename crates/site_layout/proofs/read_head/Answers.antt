@@ -8,32 +8,38 @@ use native.Mathlib.Omega.{arith}
 use Rattle.site_layout.proofs.read_head.Goals as goal
 
 pub header_at-h-requires : goal.header_at-h-requires
-header_at-h-requires c = let f = c.args.file.now in
+header_at-h-requires c =
+    let f = c.args.file.now in
     let p = c.requires in
     (ap complete (whole_at f) ∙ p.0, omega (arith, (head_here f p.0 p.1).long))
 
 pub number_at-requires : goal.number_at-requires
-number_at-requires c = let f = c.args.file.now in
+number_at-requires c =
+    let f = c.args.file.now in
     let p = c.requires in
     omega (arith, (head_read f (head_here f p.0 p.1) _ c.header_at-h.ensures.0).inside)
 
 pub number_at-requires-2 : goal.number_at-requires-2
-number_at-requires-2 c = let f = c.args.file.now in
+number_at-requires-2 c =
+    let f = c.args.file.now in
     let p = c.requires in
     omega (arith, (head_read f (head_here f p.0 p.1) _ c.header_at-h.ensures.0).inside)
 
 pub number_at-requires-3 : goal.number_at-requires-3
-number_at-requires-3 c = let f = c.args.file.now in
+number_at-requires-3 c =
+    let f = c.args.file.now in
     let p = c.requires in
     omega (arith, (head_read f (head_here f p.0 p.1) _ c.header_at-h.ensures.0).inside)
 
 pub byte_at-requires : goal.byte_at-requires
-byte_at-requires c = let f = c.args.file.now in
+byte_at-requires c =
+    let f = c.args.file.now in
     let p = c.requires in
     omega (arith, (head_read f (head_here f p.0 p.1) _ c.header_at-h.ensures.0).inside)
 
 pub returns : goal.returns
-returns c = let f = c.args.file.now in
+returns c =
+    let f = c.args.file.now in
     let p = c.requires in
     let x = head_read f (head_here f p.0 p.1) _ c.header_at-h.ensures.0 in
     record {

@@ -14,11 +14,9 @@ use Rattle.site_layout.proofs.rest_laid.Goals as goal
 pub returns-then-count-gt-MOTION_LIMIT : goal.returns-then-count-gt-MOTION_LIMIT
 returns-then-count-gt-MOTION_LIMIT c = sym (rest_few _ _ (subst (λ (n : ℕ). motion_limit < n) c.leading_motions-motions.ensures.count c.if-count-gt-MOTION_LIMIT.true))
 
-pub centres_laid-requires : goal.centres_laid-requires
-centres_laid-requires c = let r = c.leading_motions-motions.ensures in (r.whole, r.inside)
-
 pub returns : goal.returns
-returns c = let r = c.leading_motions-motions.ensures in
+returns c =
+    let r = c.leading_motions-motions.ensures in
     let fs = listed (fields_at c.args.file.now c.args.start) in
     c.centres_laid.ensures
     ∙ ap (centres_laid c.args.cells) (r.rest ∙ ap (λ (n : ℕ). drop n fs) r.count)

@@ -12,38 +12,21 @@ loop-number-init c = (refl, reached_first c.args.file.now c.args.start c.require
 
 pub overflow_cast-index : goal.overflow_cast-index
 overflow_cast-index c =
-    let place : MotionPlace c.args.file.now c.loop-number.number c.loop-number.at = reached_place c.args.file.now c.loop-number.at c.loop-number.number c.loop-number.invariant.1 (omega (arith, c.requires.file_len_bound.3)) in
+    let place = reached_place c.args.file.now c.loop-number.at c.loop-number.number c.loop-number.invariant.1 (omega (arith, c.requires.file_len_bound.3)) in
     omega (arith, c.requires.file_len_bound.0, place.inside)
-
-pub offset_bounds-index-number : goal.offset_bounds-index-number
-offset_bounds-index-number c = omega (arith, c.loop-number.invariant.0, c.requires.motions_in_bounds)
-
-pub bounds-index-number : goal.bounds-index-number
-bounds-index-number c = omega (arith, c.loop-number.invariant.0, c.requires.motions_in_bounds)
 
 pub next_field-at-requires : goal.next_field-at-requires
 next_field-at-requires c =
-    let place : MotionPlace c.args.file.now c.loop-number.number c.loop-number.at = reached_place c.args.file.now c.loop-number.at c.loop-number.number c.loop-number.invariant.1 (omega (arith, c.requires.file_len_bound.3)) in
+    let place = reached_place c.args.file.now c.loop-number.at c.loop-number.number c.loop-number.invariant.1 (omega (arith, c.requires.file_len_bound.3)) in
     let p = place in (p.whole, p.inside)
 
 pub loop-number-preserved : goal.loop-number-preserved
 loop-number-preserved c =
-    let place : MotionPlace c.args.file.now c.loop-number.number c.loop-number.at = reached_place c.args.file.now c.loop-number.at c.loop-number.number c.loop-number.invariant.1 (omega (arith, c.requires.file_len_bound.3)) in
+    let place = reached_place c.args.file.now c.loop-number.at c.loop-number.number c.loop-number.invariant.1 (omega (arith, c.requires.file_len_bound.3)) in
     let f = c.args.file.now in
     let l = c.loop-number in
     let size = l.invariant.0 in (
       length-set l.index l.number l.at ∙ size,
       reached_next f l.at l.number l.invariant.1 (omega (arith, c.requires.file_len_bound.3)) _ c.next_field-at.ensures,
-      filled (MotionPlace f) l.index l.number l.at (omega (arith, c.requires.motions_in_bounds)) l.invariant.2 (place),
+      filled (MotionPlace f) l.index l.number l.at (omega (arith, c.requires.motions_in_bounds)) l.invariant.2 place,
     )
-
-pub shape_of-index : goal.shape_of-index
-shape_of-index c = c.loop-number.invariant.0
-
-pub returns : goal.returns
-returns c = let l = c.loop-number in
-    let size = l.invariant.0 in
-    record {
-      index = record { room = omega (arith, c.requires.file_len_bound.3, c.requires.motions_in_bounds); place = λ k q. l.invariant.2 k (omega (arith, c.requires.file_len_bound.3)) };
-      index_len_unchanged = size;
-    }

@@ -1,56 +1,38 @@
 -- `site_read::read_centre` meets its contract.
 -- Assumes nothing.
-use Prim.Native.Nat.{◌+◌, ◌*◌, ◌-◌, ◌≤◌}
+use Prim.Native.Nat.{◌+◌, ◌*◌, ◌-◌}
 use mathlib.Core.Path.{◌≡◌, refl, ap, ap₂, ◌∙◌}
 use lib.ListN.{length}
 use native.Mathlib.Omega.{arith}
 use Rattle.meaning.specs.Basics.{u16_at}
 use Rattle.site_layout.specs.Laid.{centre_field}
 use Rattle.site_read.specs.declared.Centre.{Centre}
-use Rattle.site_read.proofs.CentreLaws.{CentrePlace, centre_there}
+use Rattle.site_read.proofs.CentreLaws.{centre_there}
 use Rattle.site_read.proofs.read_centre.Goals as goal
-
-pub overflow_sub-later : goal.overflow_sub-later
-overflow_sub-later c = omega (arith, c.requires.2)
 
 pub overflow_mul-at : goal.overflow_mul-at
 overflow_mul-at c =
-    let there : (centre_field * (c.args.centres - c.args.cell) ≤ length c.args.file.now) × CentrePlace c.args.file.now c.args.cell (length c.args.file.now - centre_field * (c.args.centres - c.args.cell)) = centre_there c.args.file.now c.requires.0 c.args.centres c.args.cell _ c.requires.1 c.requires.2 refl in
+    let there = centre_there c.args.file.now c.requires.0 c.args.centres c.args.cell _ c.requires.1 c.requires.2 refl in
     omega (arith, there.0)
 
 pub overflow_sub-at : goal.overflow_sub-at
 overflow_sub-at c =
-    let there : (centre_field * (c.args.centres - c.args.cell) ≤ length c.args.file.now) × CentrePlace c.args.file.now c.args.cell (length c.args.file.now - centre_field * (c.args.centres - c.args.cell)) = centre_there c.args.file.now c.requires.0 c.args.centres c.args.cell _ c.requires.1 c.requires.2 refl in
+    let there = centre_there c.args.file.now c.requires.0 c.args.centres c.args.cell _ c.requires.1 c.requires.2 refl in
     omega (arith, there.0)
-
-pub overflow_add-at : goal.overflow_add-at
-overflow_add-at c =
-    let there : (centre_field * (c.args.centres - c.args.cell) ≤ length c.args.file.now) × CentrePlace c.args.file.now c.args.cell (length c.args.file.now - centre_field * (c.args.centres - c.args.cell)) = centre_there c.args.file.now c.requires.0 c.args.centres c.args.cell _ c.requires.1 c.requires.2 refl in
-    omega (arith, there.1.inside)
 
 pub u16_at-requires : goal.u16_at-requires
 u16_at-requires c =
-    let there : (centre_field * (c.args.centres - c.args.cell) ≤ length c.args.file.now) × CentrePlace c.args.file.now c.args.cell (length c.args.file.now - centre_field * (c.args.centres - c.args.cell)) = centre_there c.args.file.now c.requires.0 c.args.centres c.args.cell _ c.requires.1 c.requires.2 refl in
-    omega (arith, there.1.inside)
-
-pub overflow_add-at-2 : goal.overflow_add-at-2
-overflow_add-at-2 c =
-    let there : (centre_field * (c.args.centres - c.args.cell) ≤ length c.args.file.now) × CentrePlace c.args.file.now c.args.cell (length c.args.file.now - centre_field * (c.args.centres - c.args.cell)) = centre_there c.args.file.now c.requires.0 c.args.centres c.args.cell _ c.requires.1 c.requires.2 refl in
-    omega (arith, there.1.inside)
-
-pub overflow_add-at-3 : goal.overflow_add-at-3
-overflow_add-at-3 c =
-    let there : (centre_field * (c.args.centres - c.args.cell) ≤ length c.args.file.now) × CentrePlace c.args.file.now c.args.cell (length c.args.file.now - centre_field * (c.args.centres - c.args.cell)) = centre_there c.args.file.now c.requires.0 c.args.centres c.args.cell _ c.requires.1 c.requires.2 refl in
+    let there = centre_there c.args.file.now c.requires.0 c.args.centres c.args.cell _ c.requires.1 c.requires.2 refl in
     omega (arith, there.1.inside)
 
 pub u16_at-requires-2 : goal.u16_at-requires-2
 u16_at-requires-2 c =
-    let there : (centre_field * (c.args.centres - c.args.cell) ≤ length c.args.file.now) × CentrePlace c.args.file.now c.args.cell (length c.args.file.now - centre_field * (c.args.centres - c.args.cell)) = centre_there c.args.file.now c.requires.0 c.args.centres c.args.cell _ c.requires.1 c.requires.2 refl in
+    let there = centre_there c.args.file.now c.requires.0 c.args.centres c.args.cell _ c.requires.1 c.requires.2 refl in
     omega (arith, there.1.inside)
 
 pub returns : goal.returns
 returns c =
-    let there : (centre_field * (c.args.centres - c.args.cell) ≤ length c.args.file.now) × CentrePlace c.args.file.now c.args.cell (length c.args.file.now - centre_field * (c.args.centres - c.args.cell)) = centre_there c.args.file.now c.requires.0 c.args.centres c.args.cell _ c.requires.1 c.requires.2 refl in
+    let there = centre_there c.args.file.now c.requires.0 c.args.centres c.args.cell _ c.requires.1 c.requires.2 refl in
     let file = c.args.file.now in
     let at = length file - centre_field * (c.args.centres - c.args.cell) in
     let two : at + 3 + 2 ≡ at + 5 = omega arith in

@@ -7,25 +7,29 @@ use native.Mathlib.Omega.{arith}
 use Rattle.site_read.proofs.read_motion.Goals as goal
 
 pub number_at-requires : goal.number_at-requires
-number_at-requires c = let f = c.args.file.now in
+number_at-requires c =
+    let f = c.args.file.now in
     let x = motion_read f c.args.at _ c.header_at-h.ensures.0 c.requires.2 in
     let i = x.inside in
     omega arith
 
 pub number_at-requires-2 : goal.number_at-requires-2
-number_at-requires-2 c = let f = c.args.file.now in
+number_at-requires-2 c =
+    let f = c.args.file.now in
     let x = motion_read f c.args.at _ c.header_at-h.ensures.0 c.requires.2 in
     let i = x.inside in
     omega arith
 
 pub bounds-file-start : goal.bounds-file-start
-bounds-file-start c = let f = c.args.file.now in
+bounds-file-start c =
+    let f = c.args.file.now in
     let x = motion_read f c.args.at _ c.header_at-h.ensures.0 c.requires.2 in
     let i = x.inside in
     omega arith
 
 pub returns : goal.returns
-returns c = let f = c.args.file.now in
+returns c =
+    let f = c.args.file.now in
     let x = motion_read f c.args.at _ c.header_at-h.ensures.0 c.requires.2 in
     let k = c.sweep_count.ensures in
     let i = x.inside in

@@ -8,5 +8,6 @@ use Rattle.site_sweeps.proofs.meets.Goals as goal
 
 pub returns : goal.returns
 unfolding meets
-returns c = let e = ap₂ leb c.later.ensures c.earlier.ensures in
+returns c =
+    let e = ap₂ leb c.later.ensures c.earlier.ensures in
     record { value = e; meet = ((λ h. met _ _ _ _ (sym e ∙ h)), (λ m. e ∙ all_met _ _ _ _ m)) }

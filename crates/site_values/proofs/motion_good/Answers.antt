@@ -10,7 +10,8 @@ use native.Mathlib.Omega.{arith}
 use Rattle.site_values.proofs.motion_good.Goals as goal
 
 pub state_cell-x-requires : goal.state_cell-x-requires
-state_cell-x-requires c = let f = c.args.file.now in
+state_cell-x-requires c =
+    let f = c.args.file.now in
     let r = c.read_motion-m in
     let m = r.result in
     let e : ends_good c.args.count m.from m.to m.span ≡ true = sym c.ends_good.ensures ∙ c.if-ends_good.true in
@@ -19,7 +20,8 @@ state_cell-x-requires c = let f = c.args.file.now in
     (c.requires.laid.0, omega arith)
 
 pub state_cell-y-requires : goal.state_cell-y-requires
-state_cell-y-requires c = let f = c.args.file.now in
+state_cell-y-requires c =
+    let f = c.args.file.now in
     let r = c.read_motion-m in
     let m = r.result in
     let e : ends_good c.args.count m.from m.to m.span ≡ true = sym c.ends_good.ensures ∙ c.if-ends_good.true in
@@ -28,7 +30,8 @@ state_cell-y-requires c = let f = c.args.file.now in
     (c.requires.laid.0, omega arith)
 
 pub returns-then-ends_good : goal.returns-then-ends_good
-returns-then-ends_good c = let f = c.args.file.now in
+returns-then-ends_good c =
+    let f = c.args.file.now in
     let r = c.read_motion-m in
     let m = r.result in
     let e : ends_good c.args.count m.from m.to m.span ≡ true = sym c.ends_good.ensures ∙ c.if-ends_good.true in
@@ -39,7 +42,8 @@ returns-then-ends_good c = let f = c.args.file.now in
     c.sweeps_pass.ensures ∙ sym t
 
 pub returns-else-ends_good : goal.returns-else-ends_good
-returns-else-ends_good c = let f = c.args.file.now in
+returns-else-ends_good c =
+    let f = c.args.file.now in
     let r = c.read_motion-m in
     let m = r.result in
     let e : ends_good c.args.count m.from m.to m.span ≡ false = sym c.ends_good.ensures ∙ c.if-ends_good.false in
