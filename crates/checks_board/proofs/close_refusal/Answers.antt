@@ -4,7 +4,6 @@ use Prim.Native.Nat.{ℕ, ◌<◌}
 use mathlib.Core.Path.{◌≡◌, sym, ap, ◌∙◌}
 use mathlib.Core.Bool.{Bool, true, false, not}
 use mathlib.Core.List.{List}
-use Rattle.meaning.specs.Answers.{lowest}
 use Rattle.meaning.specs.Site.{Site, site_of}
 use Rattle.meaning.specs.Board.{is_closure, closable, run_to, all_free, stands, edition}
 use Rattle.meaning.specs.Limits.{last_edition}
