@@ -23,14 +23,14 @@ unfolding picture_refusals
 returns-then-not-light_named c =
     let is_lit : is_light c.args.light.now ≡ true = sym c.is_light.ensures ∙ c.if-not-is_light.false in
     λ site says.
-    miss _ _ _ _ (ap not (is_lit)) (hit 10 _ _ (ap not (sym (c.light_named.ensures site says) ∙ c.if-not-light_named.true)))
+    miss _ _ _ _ (ap not is_lit) (hit 10 _ _ (ap not (sym (c.light_named.ensures site says) ∙ c.if-not-light_named.true)))
 
 pub returns-then-k-gt-LAST_FRAME : goal.returns-then-k-gt-LAST_FRAME
 unfolding picture_refusals
 returns-then-k-gt-LAST_FRAME c =
     let is_lit : is_light c.args.light.now ≡ true = sym c.is_light.ensures ∙ c.if-not-is_light.false in
     λ site says.
-    miss _ _ _ _ (ap not (is_lit))
+    miss _ _ _ _ (ap not is_lit)
     (miss _ _ _ _ (ap not (sym (c.light_named.ensures site says) ∙ c.if-not-light_named.false)) (hit 20 _ _ (simp (lt-ltb last_frame _ c.if-k-gt-LAST_FRAME.true))))
 
 pub returns-then-l-eq0 : goal.returns-then-l-eq0
@@ -40,7 +40,7 @@ returns-then-l-eq0 c =
     let few : ltb last_frame c.args.k ≡ false = let frame : c.args.k ≤ last_frame = omega (arith, c.if-k-gt-LAST_FRAME.false) in le-ltb last_frame _ frame in
     λ site says.
     let none : length site.centres ≡ 0 = sym (ap (λ (l : Sizes). l.centres) says) ∙ c.if-l-eq0.true in
-    miss _ _ _ _ (ap not (is_lit))
+    miss _ _ _ _ (ap not is_lit)
     (miss _ _ _ _ (ap not (sym (c.light_named.ensures site says) ∙ c.if-not-light_named.false))
     (hit 20 _ _ (simp (few, eq-eqb _ _ none))))
 
@@ -51,6 +51,6 @@ returns c =
     let few : ltb last_frame c.args.k ≡ false = let frame : c.args.k ≤ last_frame = omega (arith, c.if-k-gt-LAST_FRAME.false) in le-ltb last_frame _ frame in
     λ site says.
     let some : length site.centres ≡ 0 → ⊥ = λ e. c.if-l-eq0.false (ap (λ (l : Sizes). l.centres) says ∙ e) in
-    miss _ _ _ _ (ap not (is_lit))
+    miss _ _ _ _ (ap not is_lit)
     (miss _ _ _ _ (ap not (sym (c.light_named.ensures site says) ∙ c.if-not-light_named.false))
     (miss _ _ _ _ (simp (few, ne_eqb _ _ some)) none_left))

@@ -27,7 +27,7 @@ find_motion-motion-requires c =
     let light = c.args.light.now in
     let said : Move c.in-Move.m c.in-Move.field-1 ≡ step_at light (light_length (c.args.step - 1)) = sym c.in-Move.is ∙ c.step_at.ensures ∙ ap (step_at light) c.step_place.ensures in
     sym (steps_there _ light c.requires.drawable.1 (c.args.step - 1)) ∙ (move_on light _ _ _ said).steps in
-    (drawn_laid _ _ c.requires.drawable.0, drawn_start _ _ c.requires.drawable.0, motion_known _ _ c.requires.drawable.1 (c.args.step - 1) _ _ (moved))
+    (drawn_laid _ _ c.requires.drawable.0, drawn_start _ _ c.requires.drawable.0, motion_known _ _ c.requires.drawable.1 (c.args.step - 1) _ _ moved)
 
 pub returns-in-Move : goal.returns-in-Move
 returns-in-Move c =
@@ -39,8 +39,8 @@ returns-in-Move c =
     let site = site_of c.args.file.now in
     let steps = (light_of c.args.light.now).steps in
     let to = c.find_motion-motion.ensures.to in (
-      to ∙ sym (ap (stands_in site c.args.start steps) (before) ∙ behind_motion site c.args.start steps (c.args.step - 1) _ _ (moved)),
-      subst (λ (n : ℕ). n < length site.states) (sym to) (drawn_to _ _ c.requires.drawable.0 _ (motion_known _ _ c.requires.drawable.1 (c.args.step - 1) _ _ (moved))),
+      to ∙ sym (ap (stands_in site c.args.start steps) before ∙ behind_motion site c.args.start steps (c.args.step - 1) _ _ moved),
+      subst (λ (n : ℕ). n < length site.states) (sym to) (drawn_to _ _ c.requires.drawable.0 _ (motion_known _ _ c.requires.drawable.1 (c.args.step - 1) _ _ moved)),
     )
 
 -- before a wait that is not the first step stands a motion
@@ -51,4 +51,4 @@ returns-in_default c =
     let (n, later, waits) = c.requires.step_bound.1 in
     absurd
     (motion_before _ light c.requires.drawable.1 (c.args.step - 1) n later c.step_at.result (c.step_at.ensures ∙ ap (step_at light) c.step_place.ensures)
-    (rest_of_move c.step_at.result c.in_default.not-Move) (waits ∙ ap (λ (i : ℕ). step_at light (light_length i)) (before)))
+    (rest_of_move c.step_at.result c.in_default.not-Move) (waits ∙ ap (λ (i : ℕ). step_at light (light_length i)) before))
