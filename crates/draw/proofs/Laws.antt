@@ -1,10 +1,10 @@
 -- Laws of a light's steps by their number, and of what a site that can be drawn has.
 -- Assumes nothing.
-use Prim.Native.Nat.{ℕ, zero, suc, ◌+◌, ◌*◌, ◌-◌, ◌≤◌, ◌<◌}
+use Prim.Native.Nat.{ℕ, zero, suc, ◌+◌, ◌*◌, ◌≤◌, ◌<◌}
 use native.Mathlib.Omega.{arith}
-use mathlib.Core.Path.{◌≡◌, refl, sym, ap, ◌∙◌, subst}
-use mathlib.Core.Logic.{◌⊎◌, inl, inr}
-use mathlib.Core.Bool.{Bool, true, false, ◌&&◌, ◌||◌, false≢true}
+use mathlib.Core.Path.{◌≡◌, refl, sym, ap, ◌∙◌}
+use mathlib.Core.Logic.{inl, inr}
+use mathlib.Core.Bool.{Bool, true, ◌&&◌, ◌||◌, false≢true}
 use mathlib.Core.List.{List, [], ◌∷◌, map}
 use lib.Dec.{ltb}
 use lib.ListN.{length, drop}
@@ -13,11 +13,10 @@ use denote.Enum.Declared.{tag_of}
 use types.Run.{OneOf}
 use Rattle.meaning.specs.Limits.{step_size}
 use Rattle.meaning.specs.Basics.{all, u16_at}
-use Rattle.meaning.specs.Answers.{accepted}
 use Rattle.meaning.specs.Fields.{Field, complete, listed}
-use Rattle.meaning.specs.Site.{Site, site_of, cell_of, motion_at, read_site}
+use Rattle.meaning.specs.Site.{Site, site_of, cell_of, motion_at}
 use Rattle.meaning.specs.Plan.{Step, wait, move}
-use Rattle.meaning.specs.Light.{Light, start_of, is_move, is_wait, in_layout, step_of, light_of}
+use Rattle.meaning.specs.Light.{start_of, is_move, is_wait, in_layout, step_of, light_of}
 use Rattle.meaning.specs.Calls.{step_named, light_named}
 use Rattle.meaning.specs.WellFormed.{WellFormed}
 use Rattle.meaning.specs.Pictures.{picture_from}
@@ -26,7 +25,7 @@ use Rattle.meaning.proofs.LightLaws.{move_tests, wait_tests}
 use Rattle.meaning.proofs.MotionLaws.{cell_known, good_at}
 use Rattle.meaning.proofs.CallLaws.{named_start}
 use Rattle.meaning.proofs.SiteLaws.{read_well}
-use Rattle.fields.specs.Places.{fields_at, field_at, Next}
+use Rattle.fields.specs.Places.{fields_at, field_at}
 use Rattle.fields.proofs.Laws.{listed_end, complete_end, next_is, room, value_length}
 use Rattle.light.specs.Sizes.{first_step, step_length, light_length}
 use Rattle.light_steps.specs.Steps.{steps_from, laid_from, step_at}
@@ -146,6 +145,20 @@ none_later zero [] e f = let z = ap length f in omega arith
 none_later zero (p ∷ ps) e f = let z = ap length e in omega arith
 none_later (suc j) [] e f = let z = ap length f in omega arith
 none_later (suc j) (p ∷ ps) e f = none_later j ps e f
+
+-- ---- the numbers that are left after an arm took its steps
+
+pub rest_of_move : (r : LightStep) → ((m later : ℕ) → r ≡ Move m later → ⊥) → OneOf (0 ∷ 2 ∷ 3 ∷ []) (tag_of the_type r)
+rest_of_move (Wait n later) _ = inl refl
+rest_of_move (Move m later) other = absurd (other m later refl)
+rest_of_move End _ = inr (inl refl)
+rest_of_move Wrong _ = inr (inr refl)
+
+pub rest_of_steps : (r : LightStep) → ((n later : ℕ) → r ≡ Wait n later → ⊥) → ((m later : ℕ) → r ≡ Move m later → ⊥) → OneOf (2 ∷ 3 ∷ []) (tag_of the_type r)
+rest_of_steps (Wait n later) other _ = absurd (other n later refl)
+rest_of_steps (Move m later) _ other = absurd (other m later refl)
+rest_of_steps End _ _ = inl refl
+rest_of_steps Wrong _ _ = inr refl
 
 -- ---- a light that can be drawn
 

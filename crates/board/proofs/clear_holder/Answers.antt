@@ -1,10 +1,8 @@
 -- `board::clear_holder` meets its contract. The invariant: what clearing from i on leaves is what clearing the whole leaves.
 -- Assumes nothing.
-use Prim.Native.Nat.{◌-◌}
 use mathlib.Core.Path.{sym, ◌∙◌}
-use lib.ListN.{length-set}
 use Rattle.meaning.specs.Board.{clear}
-use Rattle.board.proofs.HolderLaws.{clear_next, clear_end}
+use Rattle.board.proofs.HolderLaws.{clear_end}
 use native.Mathlib.Omega.{arith}
 use Rattle.board.proofs.clear_holder.Goals as goal
 

@@ -1,11 +1,10 @@
 -- `board::holder_stands` meets its contract. The invariant: what was found and the bytes from at on answer as all after the edition do.
 -- Assumes nothing.
-use Prim.Native.Nat.{ℕ, ◌+◌, ◌-◌}
-use mathlib.Core.Path.{◌≡◌, refl, sym, ap, ◌∙◌}
+use Prim.Native.Nat.{ℕ, ◌+◌}
+use mathlib.Core.Path.{◌≡◌, sym, ap, ◌∙◌}
 use mathlib.Core.Bool.{Bool, false, ◌&&◌, ◌||◌, or-false}
 use lib.Dec.{eqb}
-use mathlib.Core.List.{List}
-use lib.ListN.{drop, drop_of_length-le}
+use lib.ListN.{drop_of_length-le}
 use Rattle.meaning.specs.Basics.{any}
 use Rattle.meaning.specs.Board.{is_holder}
 use Rattle.meaning.proofs.BasicsLaws.{any_nil}

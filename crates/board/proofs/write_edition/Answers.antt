@@ -1,10 +1,8 @@
 -- `board::write_edition` meets its contract: four stores at the front.
 -- Assumes nothing.
 use Prim.Native.Nat.{◌/◌, ◌%◌}
-use lib.ListN.{length-set}
 use Rattle.meaning.specs.Board.{with_edition}
 use Rattle.board.proofs.EditionLaws.{front}
-use native.Mathlib.Omega.{arith}
 use Rattle.board.proofs.write_edition.Goals as goal
 
 pub returns : goal.returns

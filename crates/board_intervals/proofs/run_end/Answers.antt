@@ -1,7 +1,6 @@
 -- `board_intervals::run_end` meets its contract. The invariant: the run from t on ends where the run from first on does.
 -- Assumes nothing.
-use Prim.Native.Nat.{◌-◌}
-use mathlib.Core.Path.{refl, sym, ◌∙◌}
+use mathlib.Core.Path.{sym, ◌∙◌}
 use Rattle.meaning.specs.Board.{free}
 use Rattle.board_intervals.proofs.Laws.{end_stop, end_next, end_last}
 use native.Mathlib.Omega.{arith}

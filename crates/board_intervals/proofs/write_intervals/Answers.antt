@@ -1,6 +1,6 @@
 -- `board_intervals::write_intervals` meets its contract. The invariant: writing what is left leaves what writing all intervals leaves.
 -- Assumes nothing.
-use Prim.Native.Nat.{ℕ, ◌-◌}
+use Prim.Native.Nat.{ℕ}
 use mathlib.Core.Path.{◌≡◌, refl, sym, ◌∙◌}
 use mathlib.Core.Bool.{Bool, true}
 use Rattle.meaning.specs.Site.{Site}

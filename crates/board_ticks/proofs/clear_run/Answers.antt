@@ -1,6 +1,5 @@
 -- `board_ticks::clear_run` meets its contract. The invariant: the ticks from t on answer as all do.
 -- Assumes nothing.
-use Prim.Native.Nat.{◌-◌}
 use native.Mathlib.Omega.{arith}
 use mathlib.Core.Path.{sym, ◌∙◌}
 use mathlib.Core.Bool.{true, false}

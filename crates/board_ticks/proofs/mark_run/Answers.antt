@@ -1,11 +1,11 @@
 -- `board_ticks::mark_run` meets its contract. The invariant: what marking the ticks from tick on leaves is what marking them all leaves.
 -- Assumes nothing.
-use Prim.Native.Nat.{ℕ, ◌+◌, ◌*◌, ◌-◌}
-use mathlib.Core.Path.{refl, sym, ap, ◌∙◌}
+use Prim.Native.Nat.{ℕ, ◌+◌, ◌*◌}
+use mathlib.Core.Path.{sym, ap, ◌∙◌}
 use lib.ListN.{set, length-set}
 use Rattle.meaning.specs.Limits.{header}
 use Rattle.meaning.specs.Board.{mark, run_to}
-use Rattle.board_ticks.proofs.TickLaws.{mark_next, mark_end}
+use Rattle.board_ticks.proofs.TickLaws.{mark_next}
 use native.Mathlib.Omega.{arith}
 use Rattle.board_ticks.proofs.mark_run.Goals as goal
 

@@ -6,8 +6,7 @@ use mathlib.Core.Path.{◌≡◌, refl, sym, ◌∙◌}
 use mathlib.Core.Bool.{true}
 use Rattle.meaning.specs.Limits.{header}
 use Rattle.board_ticks.specs.Runs.{clear_run}
-use Rattle.meaning.specs.Board.{closable}
-use Rattle.board_ticks.proofs.TickLaws.{none_free, not_closable_of, clear_closable_of}
+use Rattle.board_ticks.proofs.TickLaws.{not_closable_of, clear_closable_of}
 use Rattle.board_ticks.proofs.run_closable.Goals as goal
 
 pub returns-then-not-clear_run : goal.returns-then-not-clear_run

@@ -2,8 +2,7 @@
 -- Assumes nothing.
 use native.Mathlib.Omega.{arith}
 use mathlib.Core.Path.{◌∙◌}
-use Rattle.meaning.specs.Board.{free}
-use Rattle.board_ticks.proofs.TickLaws.{none_free, clear_free_of}
+use Rattle.board_ticks.proofs.TickLaws.{clear_free_of}
 use Rattle.board_ticks.proofs.run_free.Goals as goal
 
 pub returns : goal.returns

@@ -4,7 +4,7 @@ use Prim.Native.Nat.{ℕ, ◌<◌}
 use mathlib.Core.Path.{◌≡◌, sym, ap, ◌∙◌}
 use mathlib.Core.Bool.{Bool, true, false, not}
 use mathlib.Core.List.{List}
-use Rattle.meaning.specs.Answers.{lowest}
+use lib.Dec.{eqb}
 use Rattle.meaning.specs.Site.{Site, site_of}
 use Rattle.meaning.specs.Board.{is_closure, closable, run_to, all_free, stands, edition}
 use Rattle.meaning.specs.Limits.{last_edition}
@@ -17,7 +17,6 @@ use Rattle.board_ticks.proofs.TickLaws.{run_to_free}
 use Rattle.checks.proofs.Laws.{Past}
 use Rattle.checks_board.proofs.Laws.{horizon_of, margin_of, ready_row, named_cell, named_last}
 use Rattle.checks_board.proofs.close_refusal.Goals as goal
-use lib.Dec.{eqb}
 
 -- ---- what is known behind each check, of a site
 
