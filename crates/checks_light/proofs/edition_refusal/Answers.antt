@@ -4,7 +4,6 @@ use Prim.Native.Nat.{ℕ}
 use mathlib.Core.Path.{◌≡◌, sym, ap, ◌∙◌}
 use mathlib.Core.Bool.{false, not}
 use mathlib.Core.List.{List}
-use native.Mathlib.Omega.{arith}
 use borrow.Author.Tests.{eq-eqb, ne_eqb}
 use lib.Dec.{eqb}
 use Rattle.meaning.specs.Limits.{last_edition}
@@ -35,12 +34,6 @@ module _ (site : Site) (board light : List ℕ) where
 
 -- ---- the needs
 
-pub at_last_edition-last-requires : goal.at_last_edition-last-requires
-at_last_edition-last-requires c = let size = c.requires.0.board in omega arith
-
-pub read_edition-edition-requires : goal.read_edition-edition-requires
-read_edition-edition-requires c = let size = c.requires.0.board in omega arith
-
 pub returns-then-last : goal.returns-then-last
 unfolding light_refusals bytes_view
 returns-then-last c = hit 15 _ _ (sym c.at_last_edition-last.ensures ∙ c.if-last.true)
@@ -51,9 +44,6 @@ returns-then-other c =
     let more = sym c.at_last_edition-last.ensures ∙ c.if-last.false in
     past_15 (site_of c.args.file.now) c.args.board.now c.args.light.now more _
     (hit 16 _ _ (ap not (ne_eqb _ _ (λ e. c.if-other.true (c.requires.2 ∙ e ∙ sym c.read_edition-edition.ensures)))))
-
-pub valid_sized-requires : goal.valid_sized-requires
-valid_sized-requires c = (c.requires.0, c.requires.1)
 
 pub returns-then-not-valid_sized : goal.returns-then-not-valid_sized
 unfolding light_refusals bytes_view

@@ -85,9 +85,6 @@ returns-then-state_speed-ne0 c =
     let speed_is = c.state_speed.ensures ∙ ap (λ (h : Head). (state_at (site_of c.args.file.now) h.goal).speed) c.read_head-head.ensures in
     past_10 (site_of c.args.file.now) c.args.board.now c.args.light.now lit tug named _ (hit 11 _ _ (ap not (ne_eqb _ _ (λ e. c.if-state_speed-ne0.true (speed_is ∙ e)))))
 
-pub holder_stands-requires : goal.holder_stands-requires
-holder_stands-requires c = let size = c.requires.board in omega arith
-
 pub returns-then-holder_stands : goal.returns-then-holder_stands
 unfolding light_refusals bytes_view
 returns-then-holder_stands c =
@@ -99,10 +96,6 @@ returns-then-holder_stands c =
     let stand = sym speed_is ∙ c.if-state_speed-ne0.false in
     let stands_is = c.holder_stands.ensures ∙ ap (λ (h : Head). stands c.args.board.now h.tug) c.read_head-head.ensures in
     past_11 (site_of c.args.file.now) c.args.board.now c.args.light.now lit tug named stand _ (hit 12 _ _ (sym stands_is ∙ c.if-holder_stands.true))
-
-pub edition_refusal-requires : goal.edition_refusal-requires
-edition_refusal-requires c =
-    (c.requires, sym c.is_light.ensures ∙ c.if-not-is_light.false, ap (λ (h : Head). h.edition) c.read_head-head.ensures)
 
 pub returns : goal.returns
 returns c =

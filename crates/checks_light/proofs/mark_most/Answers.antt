@@ -8,6 +8,3 @@ pub fill_index-requires : goal.fill_index-requires
 fill_index-requires c =
     let (laid, room) = index_asked motion_limit c.requires.ready.0 (ready_few c.requires.ready.0) in
     record { file_len_bound = laid; motions_in_bounds = room }
-
-pub mark_light-requires : goal.mark_light-requires
-mark_light-requires c = record { ready = (c.requires.ready.0, c.fill_index.ensures.index, c.requires.ready.1); light_value = c.requires.light_value }

@@ -8,9 +8,6 @@ use Rattle.checks.proofs.Laws.{mark_editable}
 use Rattle.checks_light.proofs.Laws.{post_changes}
 use Rattle.checks_light.proofs.post_work.Goals as goal
 
-pub mark_sized-requires : goal.mark_sized-requires
-mark_sized-requires c = record { ready = (c.requires.ready, c.requires.lit); light_value = c.requires.valid }
-
 pub next_edition-requires : goal.next_edition-requires
 next_edition-requires c = let site = site_of c.args.file.now in
     let light = light_of c.args.light.now in

@@ -8,6 +8,3 @@ pub fill_index-requires : goal.fill_index-requires
 fill_index-requires c =
     let (laid, room) = index_asked motion_limit c.requires.0 (ready_few c.requires.0) in
     record { file_len_bound = laid; motions_in_bounds = room }
-
-pub light_valid-requires : goal.light_valid-requires
-light_valid-requires c = (c.requires.0, c.fill_index.ensures.index, c.requires.1)

@@ -8,6 +8,3 @@ pub fill_index-requires : goal.fill_index-requires
 fill_index-requires c =
     let (laid, room) = index_asked few_motions c.requires.ready.0 c.requires.motions_le_few_motions in
     record { file_len_bound = laid; motions_in_bounds = room }
-
-pub light_valid-requires : goal.light_valid-requires
-light_valid-requires c = (c.requires.ready.0, c.fill_index.ensures.index, c.requires.ready.1)

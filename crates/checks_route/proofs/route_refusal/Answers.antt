@@ -1,7 +1,6 @@
 -- `checks_route::route_refusal` meets its contract: each return is the first check that applies, past those before it.
 -- Assumes nothing.
 use Prim.Native.Nat.{ℕ}
-use native.Mathlib.Omega.{arith}
 use mathlib.Core.Path.{◌≡◌, sym, ap, ◌∙◌}
 use mathlib.Core.Bool.{true, false, not}
 use mathlib.Core.List.{List, []}
@@ -70,9 +69,6 @@ returns-then-state_speed-ne0 c = λ areas out words.
     let named = sym (c.trip_named.ensures _ c.requires.sizes) ∙ c.if-not-trip_named.false in
     past_10 (site_of c.args.file.now) c.args.board.now areas c.args.tug (node trip.start trip.tick) trip.goal trip.dwell tug named _
     (hit 11 _ _ (ap not (ne_eqb _ _ (λ e. c.if-state_speed-ne0.true (c.state_speed.ensures ∙ e)))))
-
-pub holder_stands-requires : goal.holder_stands-requires
-holder_stands-requires c = let size = c.requires.board in omega arith
 
 pub returns-then-holder_stands : goal.returns-then-holder_stands
 unfolding route_refusals bytes_view

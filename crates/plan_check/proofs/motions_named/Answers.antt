@@ -1,14 +1,10 @@
 -- `plan_check::motions_named` meets its contract. The invariant: the steps from the place at on answer as all do.
 -- Assumes nothing.
 use Rattle.plan_check.proofs.LightLaws.{named_wait, named_hit, named_miss, named_end}
-use Prim.Native.Nat.{◌-◌}
-use mathlib.Core.Path.{refl, sym, ◌∙◌}
+use mathlib.Core.Path.{sym, ◌∙◌}
 use Rattle.light_steps.proofs.StepLaws.{wait_on, move_on, end_on, never_wrong}
 use native.Mathlib.Omega.{arith}
 use Rattle.plan_check.proofs.motions_named.Goals as goal
-
-pub loop-next-init : goal.loop-next-init
-loop-next-init c = (c.requires, λ s e. refl)
 
 pub loop-next-smaller-in-Wait : goal.loop-next-smaller-in-Wait
 loop-next-smaller-in-Wait c = let o = wait_on _ _ _ _ (sym c.in-Wait.is ∙ c.step_at.ensures) in

@@ -1,7 +1,6 @@
 -- `plan_check::walk_steps` meets its contract. The invariant: the steps from the place at on lead from here where all lead from the start.
 -- Assumes nothing.
-use Prim.Native.Nat.{◌-◌}
-use mathlib.Core.Path.{refl, sym, ◌∙◌}
+use mathlib.Core.Path.{sym, ◌∙◌}
 use lib.ListN.{length}
 use Rattle.meaning.specs.Site.{site_of}
 use Rattle.meaning.specs.Board.{free}
@@ -15,12 +14,6 @@ use Rattle.plan_check.proofs.WalkLaws.{walk_stops, walk_goes, walk_ends}
 use borrow.Author.Rules.{rules}
 use native.Mathlib.Omega.{arith}
 use Rattle.plan_check.proofs.walk_steps.Goals as goal
-
-pub loop-n-init : goal.loop-n-init
-loop-n-init c = record { laid = c.requires.first_value; known = c.requires.ready.2; rest = refl }
-
-pub wait_allowed-requires : goal.wait_allowed-requires
-wait_allowed-requires c = (c.requires.ready.0, c.loop-n.invariant.known, search rules)
 
 pub returns-then-not-wait_allowed : goal.returns-then-not-wait_allowed
 returns-then-not-wait_allowed c = let o = wait_on _ _ _ _ (sym c.in-Wait.is ∙ c.step_at.ensures) in

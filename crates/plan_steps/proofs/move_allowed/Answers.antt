@@ -3,7 +3,6 @@
 use Prim.Native.Nat.{ℕ, ◌+◌}
 use mathlib.Core.Path.{sym, ap, ◌∙◌}
 use mathlib.Core.List.{List}
-use borrow.Author.Tests.{leb-true}
 use Rattle.meaning.specs.Site.{Sweep, site_of}
 use Rattle.meaning.specs.Board.{free}
 use Rattle.meaning.specs.Plan.{sweeps_free}
@@ -20,11 +19,6 @@ returns-then-m-a c = λ k named shown.
 pub after-end-requires : goal.after-end-requires
 after-end-requires c = let k = known c.requires.0 in
     omega (arith, k.short, c.requires.1.tick)
-
-pub sweeps_free-requires : goal.sweeps_free-requires
-sweeps_free-requires c = let k = known c.requires.0 in
-    let late = leb-true c.after-end.result.0 c.args.sizes.horizon (sym c.in_time.ensures ∙ c.if-in_time.true) in
-    record { ready = (c.requires.0, c.requires.2); span_bound = omega (arith, late, k.horizon, c.after-end.ensures) }
 
 pub returns-then-in_time : goal.returns-then-in_time
 returns-then-in_time c = λ k named shown.

@@ -1,20 +1,12 @@
 -- `plan_steps::sweeps_free` meets its contract. The invariant: the sweeps from i on answer as all do.
 -- Assumes nothing.
-use Prim.Native.Nat.{◌-◌}
-use mathlib.Core.Path.{sym, ap, ◌∙◌}
-use Rattle.meaning.specs.Basics.{all}
+use mathlib.Core.Path.{sym, ◌∙◌}
 use Rattle.meaning.specs.Site.{site_of}
 use Rattle.meaning.specs.Board.{free}
-use Rattle.site_sweeps.proofs.Laws.{rest_whole, read_test, all_none, all_hit, all_miss}
+use Rattle.site_sweeps.proofs.Laws.{read_test, all_none, all_hit, all_miss}
 use Rattle.plan_steps.proofs.Laws.{use_free, swept_at}
 use native.Mathlib.Omega.{arith}
 use Rattle.plan_steps.proofs.sweeps_free.Goals as goal
-
-pub loop-i-init : goal.loop-i-init
-loop-i-init c = ap (all (use_free (free (site_of c.args.file.now) c.args.board.now) c.args.t.0)) (rest_whole c.args.file.now c.args.m.first c.args.m.count)
-
-pub read_sweep-requires : goal.read_sweep-requires
-read_sweep-requires c = omega (arith, c.requires.ready.1.inside)
 
 pub sweep_free-requires : goal.sweep_free-requires
 sweep_free-requires c = (c.requires.ready.0, swept_at c.args.file.now c.args.m.first c.args.m.count c.args.m.span c.loop-i.i c.args.t.0 _ c.requires.ready.1 (omega arith) c.requires.span_bound c.read_sweep.ensures)
