@@ -31,7 +31,7 @@ returns-then-number-ne0 c =
     let number : ℕ = lowest (refusals c.args.file.now (lends c.args.board.now c.args.out.now []) (interval c.args.cell)) in
     let passes : Passed c.in-Passed.l ≡ check_by (site_of c.args.file.now) (lowest (refusals c.args.file.now (on_board c.args.board.now) opening)) = sym c.in-Passed.is ∙ c.check_board.ensures in
     let readied : Ready c.args.file.now (length c.args.board.now) c.in-Passed.l = ready _ (on_board _) opening _ (passes) in
-    let low : number ≡ c.interval_refusal-number.result = later_lowest _ (lends _ c.args.out.now []) (interval _) _ (passes)     ∙ sym (c.interval_refusal-number.ensures _ (room_of (lends c.args.board.now c.args.out.now [])) (readied).sizes refl) in
+    let low : number ≡ c.interval_refusal-number.result = later_lowest _ (lends _ c.args.out.now []) (interval _) _ (passes) ∙ sym (c.interval_refusal-number.ensures _ (room_of (lends c.args.board.now c.args.out.now [])) (readied).sizes refl) in
     let by : (number ≡ c.interval_refusal-number.result) × (1 ≤ c.interval_refusal-number.result) = (low, omega arith) in
     record {
       value = refused_counted _ (lends _ _ []) _ _ by;
@@ -46,7 +46,7 @@ write_intervals-found-requires c =
     let readied : Ready c.args.file.now (length c.args.board.now) c.in-Passed.l = ready _ (on_board _) opening _ (passes) in
     let horizon_is : (site_of c.args.file.now).horizon ≡ c.in-Passed.l.horizon = ready_horizon (readied) in
     let number : ℕ = lowest (refusals c.args.file.now (lends c.args.board.now c.args.out.now []) (interval c.args.cell)) in
-    let low : number ≡ c.interval_refusal-number.result = later_lowest _ (lends _ c.args.out.now []) (interval _) _ (passes)     ∙ sym (c.interval_refusal-number.ensures _ (room_of (lends c.args.board.now c.args.out.now [])) (readied).sizes refl) in
+    let low : number ≡ c.interval_refusal-number.result = later_lowest _ (lends _ c.args.out.now []) (interval _) _ (passes) ∙ sym (c.interval_refusal-number.ensures _ (room_of (lends c.args.board.now c.args.out.now [])) (readied).sizes refl) in
     let none : number ≡ 0 = low ∙ c.if-number-ne0.false in
     let cell_in : c.args.cell < (site_of c.args.file.now).cells = interval_cell _ _ c.args.out.now _ (none) in
     let horizon = horizon_is in
@@ -64,7 +64,7 @@ overflow_cast-count c =
     let horizon_is : (site_of c.args.file.now).horizon ≡ c.in-Passed.l.horizon = ready_horizon (readied) in
     let margin_is : (site_of c.args.file.now).margin ≡ c.in-Passed.l.margin = ready_margin (readied) in
     let number : ℕ = lowest (refusals c.args.file.now (lends c.args.board.now c.args.out.now []) (interval c.args.cell)) in
-    let low : number ≡ c.interval_refusal-number.result = later_lowest _ (lends _ c.args.out.now []) (interval _) _ (passes)     ∙ sym (c.interval_refusal-number.ensures _ (room_of (lends c.args.board.now c.args.out.now [])) (readied).sizes refl) in
+    let low : number ≡ c.interval_refusal-number.result = later_lowest _ (lends _ c.args.out.now []) (interval _) _ (passes) ∙ sym (c.interval_refusal-number.ensures _ (room_of (lends c.args.board.now c.args.out.now [])) (readied).sizes refl) in
     let none : number ≡ 0 = low ∙ c.if-number-ne0.false in
     let cell_in : c.args.cell < (site_of c.args.file.now).cells = interval_cell _ _ c.args.out.now _ (none) in
     let counted : c.write_intervals-found.result ≡ length (intervals (free (site_of c.args.file.now) c.args.board.now c.args.cell) c.in-Passed.l.horizon) = c.write_intervals-found.ensures.value _ (horizon_is) (margin_is) (omega (arith, cell_in)) in
@@ -75,7 +75,7 @@ returns-else-number-ne0 c =
     let number : ℕ = lowest (refusals c.args.file.now (lends c.args.board.now c.args.out.now []) (interval c.args.cell)) in
     let passes : Passed c.in-Passed.l ≡ check_by (site_of c.args.file.now) (lowest (refusals c.args.file.now (on_board c.args.board.now) opening)) = sym c.in-Passed.is ∙ c.check_board.ensures in
     let readied : Ready c.args.file.now (length c.args.board.now) c.in-Passed.l = ready _ (on_board _) opening _ (passes) in
-    let low : number ≡ c.interval_refusal-number.result = later_lowest _ (lends _ c.args.out.now []) (interval _) _ (passes)     ∙ sym (c.interval_refusal-number.ensures _ (room_of (lends c.args.board.now c.args.out.now [])) (readied).sizes refl) in
+    let low : number ≡ c.interval_refusal-number.result = later_lowest _ (lends _ c.args.out.now []) (interval _) _ (passes) ∙ sym (c.interval_refusal-number.ensures _ (room_of (lends c.args.board.now c.args.out.now [])) (readied).sizes refl) in
     let none : number ≡ 0 = low ∙ c.if-number-ne0.false in
     let horizon_is : (site_of c.args.file.now).horizon ≡ c.in-Passed.l.horizon = ready_horizon (readied) in
     let margin_is : (site_of c.args.file.now).margin ≡ c.in-Passed.l.margin = ready_margin (readied) in
@@ -90,7 +90,7 @@ returns-else-number-ne0 c =
     }
 
 pub returns-in-Refused : goal.returns-in-Refused
-returns-in-Refused c =     let by = refused_first _ (lends _ _ []) (interval _) _ (sym c.in-Refused.is ∙ c.check_board.ensures) in
+returns-in-Refused c = let by = refused_first _ (lends _ _ []) (interval _) _ (sym c.in-Refused.is ∙ c.check_board.ensures) in
     record {
       value = refused_counted _ (lends _ _ []) _ _ by;
       out_after = refused_out _ (lends _ _ []) (interval _) _ by;

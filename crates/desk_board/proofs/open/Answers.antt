@@ -26,7 +26,7 @@ returns-in-Passed c =
     }
 
 pub returns-in-Refused : goal.returns-in-Refused
-returns-in-Refused c =     let by = refused_number _ _ _ (sym c.in-Refused.is ∙ c.check_board-checked.ensures) in
+returns-in-Refused c = let by = refused_number _ _ _ (sym c.in-Refused.is ∙ c.check_board-checked.ensures) in
     record {
       value = refused_answer _ (on_board _) opening _ by;
       board_after = refused_board _ (on_board _) opening _ by;

@@ -61,7 +61,7 @@ returns-else-number-ne0 c =
     }
 
 pub returns-in-Refused : goal.returns-in-Refused
-returns-in-Refused c =     let by = refused_first _ (on_board _) (listed (close _ _ _ _)) _ (sym c.in-Refused.is ∙ c.check_board.ensures) in
+returns-in-Refused c = let by = refused_first _ (on_board _) (listed (close _ _ _ _)) _ (sym c.in-Refused.is ∙ c.check_board.ensures) in
     record {
       value = refused_answer _ (on_board _) (listed (close _ _ _ _)) _ by;
       board_after = refused_board _ (on_board _) (listed (close _ _ _ _)) _ by;

@@ -48,7 +48,7 @@ returns-else-refusal-ne0 c =
     }
 
 pub returns-in-Refused : goal.returns-in-Refused
-returns-in-Refused c =     let by = refused_first _ (on_board _) (listed (audit _)) _ (sym c.in-Refused.is ∙ c.check_board.ensures) in
+returns-in-Refused c = let by = refused_first _ (on_board _) (listed (audit _)) _ (sym c.in-Refused.is ∙ c.check_board.ensures) in
     record {
       value = refused_answer _ (on_board _) (listed (audit _)) _ by;
       file_unchanged = refl;

@@ -102,7 +102,7 @@ returns-in-Nothing c =
     }
 
 pub returns-in-Refused : goal.returns-in-Refused
-returns-in-Refused c =     let leaves =
+returns-in-Refused c = let leaves =
     route_first c.args.file.now c.args.board.now c.args.out.now c.args.work.now c.args.tug c.args.start c.args.tick c.args.goal c.args.dwell _
     (sym c.in-Refused.is ∙ c.check_board.ensures) in
     record {

@@ -14,12 +14,12 @@ zeroed : (i needed : ℕ) (area : List ℕ) → i ≡ needed → replicate i 0 +
 zeroed i needed area done = rw (done, length-replicate {A = ℕ} needed 0)
 
 pub loop-word-preserved : goal.loop-word-preserved
-loop-word-preserved c =     let i = c.loop-word.word in (
-      search rules,
-      simp length-set (search rules),
-      ap (λ (l : List ℕ). set l i 0) c.loop-word.invariant.2 ∙ fill_more i 0 c.args.work.now (omega arith),
-    )
+loop-word-preserved c = let i = c.loop-word.word in (
+  search rules,
+  simp length-set (search rules),
+  ap (λ (l : List ℕ). set l i 0) c.loop-word.invariant.2 ∙ fill_more i 0 c.args.work.now (omega arith),
+)
 
 pub returns : goal.returns
-returns c =     let done : c.loop-word.word ≡ c.args.needed = omega arith in
+returns c = let done : c.loop-word.word ≡ c.args.needed = omega arith in
     c.loop-word.invariant.2 ∙ zeroed c.loop-word.word c.args.needed c.args.work.now done

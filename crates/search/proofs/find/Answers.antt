@@ -54,7 +54,7 @@ returns-in-Steps c =
     }
 
 pub returns-in-Missing : goal.returns-in-Missing
-returns-in-Missing c =     let board = c.args.board.now in
+returns-in-Missing c = let board = c.args.board.now in
     let none_there = subst (Planned _ _) c.in-Missing.is c.search.ensures in
     record {
       value = found_nothing _ board _ _ c.requires.0 _ none_there c.args.tug;

@@ -9,19 +9,19 @@ use native.Mathlib.Omega.{arith}
 use Rattle.search_back.proofs.wait_hit.Goals as goal
 
 pub returns-then-speed_of-ne0 : goal.returns-then-speed_of-ne0
-returns-then-speed_of-ne0 c =     let k = known c.requires.ready.0 in
+returns-then-speed_of-ne0 c = let k = known c.requires.ready.0 in
     wait_moving _ _ _ _ _ (λ e. c.if-speed_of-ne0.true (c.speed_of.ensures ∙ (c.requires.ready.1.1 c.args.s (omega (arith, k.states))).1 ∙ e))
 
 pub is_set-requires : goal.is_set-requires
-is_set-requires c =     let k = known c.requires.ready.0 in
+is_set-requires c = let k = known c.requires.ready.0 in
     (omega arith, omega (arith, k.short, k.horizon))
 
 pub run_free-requires : goal.run_free-requires
-run_free-requires c =     let k = known c.requires.ready.0 in
+run_free-requires c = let k = known c.requires.ready.0 in
     k.row _ _ (omega (arith, c.cell_of-cell.ensures, (c.requires.ready.1.1 c.args.s (omega (arith, k.states))).0, k.cell c.args.s (omega (arith, k.states)))) (omega (arith, k.horizon))
 
 pub returns-then-is_set : goal.returns-then-is_set
-returns-then-is_set c =     let k = known c.requires.ready.0 in
+returns-then-is_set c = let k = known c.requires.ready.0 in
     let (cell, speed) = c.requires.ready.1.1 c.args.s (omega (arith, k.states)) in
     let is_cell = c.cell_of-cell.ensures ∙ cell in
     wait_tested (site_of c.args.file.now) (free (site_of c.args.file.now) c.args.board.now) c.args.reached.now c.args.s c.args.t _ _ _ (omega arith) (omega (arith, k.horizon))

@@ -7,4 +7,4 @@ pub returns-then-ends-t-eq0 : goal.returns-then-ends-t-eq0
 returns-then-ends-t-eq0 c = end_never c.args.reached.now c.args.ends.now c.args.goal c.args.t c.if-ends-t-eq0.true
 
 pub returns : goal.returns
-returns c =     end_reached c.args.reached.now c.args.ends.now c.args.goal c.args.t _ c.if-ends-t-eq0.false c.is_set.ensures
+returns c = end_reached c.args.reached.now c.args.ends.now c.args.goal c.args.t _ c.if-ends-t-eq0.false c.is_set.ensures

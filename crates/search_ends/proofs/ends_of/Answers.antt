@@ -8,7 +8,7 @@ pub loop-t-init : goal.loop-t-init
 loop-t-init c = looked_none _ _ _ _ _ _ (omega arith)
 
 pub loop-t-preserved : goal.loop-t-preserved
-loop-t-preserved c =     let l = c.loop-t in
+loop-t-preserved c = let l = c.loop-t in
     looked_more _ _ _ _ _ _ _ _ _ _ _ (omega arith) (omega arith) c.free_run-run.ensures.value c.free_run-run.ensures.upper_bound c.long_enough.ensures l.invariant
 
 pub returns : goal.returns

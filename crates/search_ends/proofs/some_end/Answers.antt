@@ -13,7 +13,7 @@ pub returns-then-ends-t-ne0 : goal.returns-then-ends-t-ne0
 returns-then-ends-t-ne0 c = λ e. absurd (true≢false e)
 
 pub loop-t-preserved : goal.loop-t-preserved
-loop-t-preserved c =     no_end_more c.args.ends.now _ _ c.loop-t.invariant c.if-ends-t-ne0.false
+loop-t-preserved c = no_end_more c.args.ends.now _ _ c.loop-t.invariant c.if-ends-t-ne0.false
 
 pub returns : goal.returns
 returns c = λ e x lo hi. c.loop-t.invariant x lo (omega arith)

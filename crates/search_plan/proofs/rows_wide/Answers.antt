@@ -7,10 +7,10 @@ use Rattle.search_plan.proofs.PartsLaws.{tab_room, blank}
 use Rattle.search_plan.proofs.rows_wide.Goals as goal
 
 pub search_sized-requires : goal.search_sized-requires
-search_sized-requires c =     record {
-      possible = c.requires.possible;
-      tab_room = (tab_room _ _ 4096 _ c.requires.cells_bound (omega arith) (length-replicate {A = ℕ} 32769 0), blank 32769);
-    }
+search_sized-requires c = record {
+  possible = c.requires.possible;
+  tab_room = (tab_room _ _ 4096 _ c.requires.cells_bound (omega arith) (length-replicate {A = ℕ} 32769 0), blank 32769);
+}
 
 pub returns : goal.returns
 returns c = c.search_sized.ensures

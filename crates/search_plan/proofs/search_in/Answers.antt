@@ -8,14 +8,14 @@ use Rattle.search_plan.proofs.PartsLaws.{same_states, same_motions, ranges, arra
 use Rattle.search_plan.proofs.search_in.Goals as goal
 
 pub decode_states-requires : goal.decode_states-requires
-decode_states-requires c =     let q = c.requires.possible.0.asked in
+decode_states-requires c = let q = c.requires.possible.0.asked in
     record {
       file_value = (q.ready.read, same_states _ c.args.board.now _ _ q);
       count_in_bounds = c.requires.states_in_bounds.0;
     }
 
 pub decode_motions-requires : goal.decode_motions-requires
-decode_motions-requires c =     let q = c.requires.possible.0.asked in
+decode_motions-requires c = let q = c.requires.possible.0.asked in
     record {
       file_value = (q.ready.read, ap (λ (k : Sizes). k.start) q.ready.sizes);
       count_value = (same_motions _ c.args.board.now _ _ q, c.requires.states_in_bounds.1);
@@ -23,7 +23,7 @@ decode_motions-requires c =     let q = c.requires.possible.0.asked in
 
 pub explore-arrival-requires : goal.explore-arrival-requires
 explore-arrival-requires c =
-    let arrays : InArrays c.args.file.now c.args.sizes c.decode_states.new.states c.decode_motions.new.motions = arrays_in _ c.args.board.now _ _ c.requires.possible.0.asked _ c.decode_motions.ensures.motions_decoded _ c.decode_states.ensures.states_decoded     (omega (arith, c.decode_states.ensures.states_len_unchanged, c.requires.states_in_bounds.0)) (omega (arith, c.decode_motions.ensures.motions_len_unchanged, c.requires.states_in_bounds.1)) in
+    let arrays : InArrays c.args.file.now c.args.sizes c.decode_states.new.states c.decode_motions.new.motions = arrays_in _ c.args.board.now _ _ c.requires.possible.0.asked _ c.decode_motions.ensures.motions_decoded _ c.decode_states.ensures.states_decoded (omega (arith, c.decode_states.ensures.states_len_unchanged, c.requires.states_in_bounds.0)) (omega (arith, c.decode_motions.ensures.motions_len_unchanged, c.requires.states_in_bounds.1)) in
     let p = c.requires.possible.0 in
     let r = ranges _ c.args.board.now _ _ p.asked in record {
       ready = (p.asked.ready, arrays);
@@ -59,12 +59,12 @@ pub shape_of-tab-then-sizes-arrival : goal.shape_of-tab-then-sizes-arrival
 shape_of-tab-then-sizes-arrival c = c.explore-arrival.auto.tab
 
 pub returns-then-sizes-arrival : goal.returns-then-sizes-arrival
-returns-then-sizes-arrival c =     let p = c.requires.possible.0 in
+returns-then-sizes-arrival c = let p = c.requires.possible.0 in
     missing _ c.args.board.now _ _ p.asked c.explore-arrival.new.reached c.explore-arrival.result (c.explore-arrival.ensures.by_index_2 _ p.ends_right) _ c.if-sizes-arrival.true
 
 pub trace_back-count-requires : goal.trace_back-count-requires
 trace_back-count-requires c =
-    let arrays : InArrays c.args.file.now c.args.sizes c.decode_states.new.states c.decode_motions.new.motions = arrays_in _ c.args.board.now _ _ c.requires.possible.0.asked _ c.decode_motions.ensures.motions_decoded _ c.decode_states.ensures.states_decoded     (omega (arith, c.decode_states.ensures.states_len_unchanged, c.requires.states_in_bounds.0)) (omega (arith, c.decode_motions.ensures.motions_len_unchanged, c.requires.states_in_bounds.1)) in
+    let arrays : InArrays c.args.file.now c.args.sizes c.decode_states.new.states c.decode_motions.new.motions = arrays_in _ c.args.board.now _ _ c.requires.possible.0.asked _ c.decode_motions.ensures.motions_decoded _ c.decode_states.ensures.states_decoded (omega (arith, c.decode_states.ensures.states_len_unchanged, c.requires.states_in_bounds.0)) (omega (arith, c.decode_motions.ensures.motions_len_unchanged, c.requires.states_in_bounds.1)) in
     let p = c.requires.possible.0 in
     let i = arrays in
     let r = ranges _ c.args.board.now _ _ p.asked in
@@ -73,9 +73,9 @@ trace_back-count-requires c =
       motions = (i.motions, (c.decode_motions.ensures.motions_decoded, i.leads));
       goal_lt_states = (r.goal_below, (omega (arith, c.explore-arrival.ensures.reached_len_unchanged.0, c.requires.scratch.reached), omega (arith, c.explore-arrival.ensures.lists_len_unchanged, c.requires.scratch.lists)));
       found = (
-            _,
-            found _ c.args.board.now _ _ p.asked c.explore-arrival.new.reached c.explore-arrival.result (c.explore-arrival.ensures.by_index_2 _ p.ends_right) (omega (arith, c.if-sizes-arrival.false)) c.explore-arrival.ensures.t_after,
-          );
+        _,
+        found _ c.args.board.now _ _ p.asked c.explore-arrival.new.reached c.explore-arrival.result (c.explore-arrival.ensures.by_index_2 _ p.ends_right) (omega (arith, c.if-sizes-arrival.false)) c.explore-arrival.ensures.t_after,
+      );
     }
 
 pub shape_of-states : goal.shape_of-states
@@ -103,6 +103,6 @@ pub shape_of-tab : goal.shape_of-tab
 shape_of-tab c = c.explore-arrival.auto.tab
 
 pub returns : goal.returns
-returns c =     let p = c.requires.possible.0 in
+returns c = let p = c.requires.possible.0 in
     planned _ c.args.board.now _ _ p.asked c.explore-arrival.new.reached c.explore-arrival.result (c.explore-arrival.ensures.by_index_2 _ p.ends_right) (omega (arith, c.if-sizes-arrival.false)) c.explore-arrival.ensures.t_after
     _ c.trace_back-count.result c.trace_back-count.ensures

@@ -9,27 +9,27 @@ overflow_mul-rows c = omega (arith, all_rows _ c.args.board.now _ _ _ _ c.requir
 
 pub rows_small-requires : goal.rows_small-requires
 rows_small-requires c = record {
-      possible = c.requires;
-      cells_bound = omega (arith, c.if-rows-le-SMALL_ROWS.true);
-    }
+  possible = c.requires;
+  cells_bound = omega (arith, c.if-rows-le-SMALL_ROWS.true);
+}
 
 pub returns-then-rows-le-SMALL_ROWS : goal.returns-then-rows-le-SMALL_ROWS
 returns-then-rows-le-SMALL_ROWS c = c.rows_small.ensures
 
 pub rows_middle-requires : goal.rows_middle-requires
 rows_middle-requires c = record {
-      possible = c.requires;
-      cells_bound = omega (arith, c.if-rows-le-MIDDLE_ROWS.true);
-    }
+  possible = c.requires;
+  cells_bound = omega (arith, c.if-rows-le-MIDDLE_ROWS.true);
+}
 
 pub returns-then-rows-le-MIDDLE_ROWS : goal.returns-then-rows-le-MIDDLE_ROWS
 returns-then-rows-le-MIDDLE_ROWS c = c.rows_middle.ensures
 
 pub rows_wide-requires : goal.rows_wide-requires
 rows_wide-requires c = record {
-      possible = c.requires;
-      cells_bound = omega (arith, c.if-rows-le-WIDE_ROWS.true);
-    }
+  possible = c.requires;
+  cells_bound = omega (arith, c.if-rows-le-WIDE_ROWS.true);
+}
 
 pub returns-then-rows-le-WIDE_ROWS : goal.returns-then-rows-le-WIDE_ROWS
 returns-then-rows-le-WIDE_ROWS c = c.rows_wide.ensures

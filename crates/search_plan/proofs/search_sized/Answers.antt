@@ -7,7 +7,7 @@ use Rattle.search_sizes.specs.Sizes.{small_states, middle_states, wide_states}
 use Rattle.search_plan.proofs.search_sized.Goals as goal
 
 pub site_small-requires : goal.site_small-requires
-site_small-requires c =     let t = c.if-sizes.true in
+site_small-requires c = let t = c.if-sizes.true in
     let few = leb c.args.sizes.states small_states in
     record {
       possible = c.requires.possible;
@@ -22,7 +22,7 @@ pub returns-then-sizes : goal.returns-then-sizes
 returns-then-sizes c = c.site_small.ensures
 
 pub site_middle-requires : goal.site_middle-requires
-site_middle-requires c =     let t = c.if-sizes-2.true in
+site_middle-requires c = let t = c.if-sizes-2.true in
     let few = leb c.args.sizes.states middle_states in
     record {
       possible = c.requires.possible;
@@ -37,7 +37,7 @@ pub returns-then-sizes-2 : goal.returns-then-sizes-2
 returns-then-sizes-2 c = c.site_middle.ensures
 
 pub site_wide-requires : goal.site_wide-requires
-site_wide-requires c =     let t = c.if-sizes-3.true in
+site_wide-requires c = let t = c.if-sizes-3.true in
     let few = leb c.args.sizes.states wide_states in
     record {
       possible = c.requires.possible;

@@ -7,14 +7,14 @@ use Rattle.search_plan.proofs.PartsLaws.{scratch_of, blank}
 use Rattle.search_plan.proofs.site_middle.Goals as goal
 
 pub search_in-requires : goal.search_in-requires
-search_in-requires c =     record {
-      possible = c.requires.possible;
-      states_in_bounds = (omega (arith, length-replicate {A = ℕ} 512 0, c.requires.states_le_middle_states.0), omega (arith, length-replicate {A = ℕ} 5120 0, c.requires.states_le_middle_states.1));
-      scratch = scratch_of _ 256 1024 _ _ _ _ _ c.requires.states_le_middle_states.0 c.requires.states_le_middle_states.1 (length-replicate {A = ℕ} 1280 0) (length-replicate {A = ℕ} 1024 0) (length-replicate {A = ℕ} 256 0)
-              (length-replicate {A = ℕ} 4096 0) (length-replicate {A = ℕ} 5120 0);
-      tab_room = c.requires.tab_room;
-      by_index = blank 5120;
-    }
+search_in-requires c = record {
+  possible = c.requires.possible;
+  states_in_bounds = (omega (arith, length-replicate {A = ℕ} 512 0, c.requires.states_le_middle_states.0), omega (arith, length-replicate {A = ℕ} 5120 0, c.requires.states_le_middle_states.1));
+  scratch = scratch_of _ 256 1024 _ _ _ _ _ c.requires.states_le_middle_states.0 c.requires.states_le_middle_states.1 (length-replicate {A = ℕ} 1280 0) (length-replicate {A = ℕ} 1024 0) (length-replicate {A = ℕ} 256 0)
+      (length-replicate {A = ℕ} 4096 0) (length-replicate {A = ℕ} 5120 0);
+  tab_room = c.requires.tab_room;
+  by_index = blank 5120;
+}
 
 pub shape_of-tab : goal.shape_of-tab
 shape_of-tab c = c.search_in.auto.tab

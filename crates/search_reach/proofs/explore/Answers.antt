@@ -10,9 +10,9 @@ use Rattle.search_reach.proofs.explore.Goals as goal
 
 pub fill_lists-requires : goal.fill_lists-requires
 fill_lists-requires c = let i = c.requires.ready.1 in record {
-      motions = (i.motions, (i.leads, omega arith));
-      n_in_bounds = c.requires.scratch.lists;
-    }
+  motions = (i.motions, (i.leads, omega arith));
+  n_in_bounds = c.requires.scratch.lists;
+}
 
 pub seed-requires : goal.seed-requires
 seed-requires c =
@@ -43,7 +43,7 @@ explore_block-requires c =
       ready = (c.requires.ready.0, (c.requires.ready.1, few));
       space = space_kept _ _ _ _ _ c.requires.space i.2;
       scratch = scratch_kept _ _ _ _ _ _ _ _ _ _ _ c.requires.scratch c.fill_lists.ensures.lists_len_unchanged i.3 i.4 i.5
-            (i.6 ∙ c.seed.ensures.sized);
+          (i.6 ∙ c.seed.ensures.sized);
     }
 
 pub overflow_add-sizes : goal.overflow_add-sizes
@@ -71,7 +71,7 @@ returns-then-arrival-high c =
     let rows_sized : length c.explore_block.new.reached ≡ length c.args.reached.now = c.explore_block.ensures.kept.sized ∙ c.loop-block.invariant.6 ∙ c.seed.ensures.sized in
     let facts_there : Facts c.args.file.now (length c.args.board.now) c.args.sizes = facts c.args.file.now (length c.args.board.now) c.args.sizes c.requires.ready.0 in
     let few : c.loop-block.block < 4 = omega (arith, (facts_there).short, c.loop-block-test.true) in
-    let reaching : Reaching c.args.file.now c.args.board.now c.args.sizes c.args.states.now c.args.motions.now c.args.ends.now c.args.tables c.args.start c.args.tick c.args.goal (c.loop-block.block + 1) c.explore_block.new.tab c.explore_block.new.reached = let i = c.loop-block.invariant in     let done = c.explore_block.ensures.by_index _ i.0.from c.fill_lists.ensures.listed i.0.ahead in     reaching_turn c.args.file.now c.args.board.now c.args.sizes c.args.states.now c.args.motions.now c.args.ends.now c.args.tables c.args.start c.args.tick c.args.goal _ _ _ _ _ (few) c.explore_block.ensures.kept done.0 done.1.0 done.1.1 i.0 in
+    let reaching : Reaching c.args.file.now c.args.board.now c.args.sizes c.args.states.now c.args.motions.now c.args.ends.now c.args.tables c.args.start c.args.tick c.args.goal (c.loop-block.block + 1) c.explore_block.new.tab c.explore_block.new.reached = let i = c.loop-block.invariant in let done = c.explore_block.ensures.by_index _ i.0.from c.fill_lists.ensures.listed i.0.ahead in reaching_turn c.args.file.now c.args.board.now c.args.sizes c.args.states.now c.args.motions.now c.args.ends.now c.args.tables c.args.start c.args.tick c.args.goal _ _ _ _ _ (few) c.explore_block.ensures.kept done.0 done.1.0 done.1.1 i.0 in
     let i = c.loop-block.invariant in
     let n = c.requires.start_lt_states in
     let free_there = c.requires.tick_value in
@@ -94,10 +94,9 @@ pub loop-block-preserved : goal.loop-block-preserved
 loop-block-preserved c =
     let facts_there : Facts c.args.file.now (length c.args.board.now) c.args.sizes = facts c.args.file.now (length c.args.board.now) c.args.sizes c.requires.ready.0 in
     let few : c.loop-block.block < 4 = omega (arith, (facts_there).short, c.loop-block-test.true) in
-    let reaching : Reaching c.args.file.now c.args.board.now c.args.sizes c.args.states.now c.args.motions.now c.args.ends.now c.args.tables c.args.start c.args.tick c.args.goal (c.loop-block.block + 1) c.explore_block.new.tab c.explore_block.new.reached = let i = c.loop-block.invariant in     let done = c.explore_block.ensures.by_index _ i.0.from c.fill_lists.ensures.listed i.0.ahead in     reaching_turn c.args.file.now c.args.board.now c.args.sizes c.args.states.now c.args.motions.now c.args.ends.now c.args.tables c.args.start c.args.tick c.args.goal _ _ _ _ _ (few) c.explore_block.ensures.kept done.0 done.1.0 done.1.1 i.0 in
+    let reaching : Reaching c.args.file.now c.args.board.now c.args.sizes c.args.states.now c.args.motions.now c.args.ends.now c.args.tables c.args.start c.args.tick c.args.goal (c.loop-block.block + 1) c.explore_block.new.tab c.explore_block.new.reached = let i = c.loop-block.invariant in let done = c.explore_block.ensures.by_index _ i.0.from c.fill_lists.ensures.listed i.0.ahead in reaching_turn c.args.file.now c.args.board.now c.args.sizes c.args.states.now c.args.motions.now c.args.ends.now c.args.tables c.args.start c.args.tick c.args.goal _ _ _ _ _ (few) c.explore_block.ensures.kept done.0 done.1.0 done.1.1 i.0 in
     let i = c.loop-block.invariant in
-    let n = c.requires.start_lt_states in
-    (
+    let n = c.requires.start_lt_states in (
       reaching,
       no_end_turn c.args.file.now c.args.board.now c.args.sizes c.args.states.now c.args.motions.now c.args.ends.now c.args.tables c.args.start c.args.tick c.args.goal c.requires.ready.0 c.requires.ready.1 n.0 n.1.1 c.requires.tick_value _ _ _ (reaching) i.1 _ _ _
           c.largest-low.ensures c.least-high.ensures c.first_end-arrival.ensures (omega (arith, c.if-arrival-high.false)),
@@ -109,7 +108,7 @@ loop-block-preserved c =
     )
 
 pub returns : goal.returns
-returns c =     let i = c.loop-block.invariant in
+returns c = let i = c.loop-block.invariant in
     let n = c.requires.start_lt_states in record {
       reached_len_unchanged = (i.6 ∙ c.seed.ensures.sized, omega (arith, n.1.1));
       lists_len_unchanged = c.fill_lists.ensures.lists_len_unchanged;

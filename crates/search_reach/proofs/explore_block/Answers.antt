@@ -19,7 +19,7 @@ free_block-requires c =
     }
 
 pub fill_runs-requires : goal.fill_runs-requires
-fill_runs-requires c =     let s = c.requires.space in
+fill_runs-requires c = let s = c.requires.space in
     let same = c.free_block.ensures.sized ∙ c.shift_rows.ensures.sized in
     record {
       le_tables = (s.some, (s.few, omega (arith, s.tab, same)));
@@ -47,11 +47,11 @@ returns c =
       known_len_unchanged = (c.settle.ensures.allowed_len_unchanged.1, c.settle.ensures.grown_len_unchanged);
       kept = c.settle.ensures.kept;
       by_index = λ first late lists ahead.
-              let right = tables_made c.args.file.now c.args.board.now c.args.sizes c.args.tables c.args.block first c.requires.ready.0
-              c.args.tab.now c.shift_rows.new.tab c.free_block.new.tab c.fill_runs.new.tab late
-              c.shift_rows.ensures c.free_block.ensures c.fill_runs.ensures.by_index ahead in (
-                right,
-                c.settle.ensures.by_index _ (right_made c.args.file.now c.args.board.now c.args.sizes c.args.tables c.args.block first c.requires.ready.0
-                    c.args.states.now c.args.motions.now c.fill_runs.new.tab _ c.requires.ready.1.0 c.requires.space right) lists,
-              );
+          let right = tables_made c.args.file.now c.args.board.now c.args.sizes c.args.tables c.args.block first c.requires.ready.0
+          c.args.tab.now c.shift_rows.new.tab c.free_block.new.tab c.fill_runs.new.tab late
+          c.shift_rows.ensures c.free_block.ensures c.fill_runs.ensures.by_index ahead in (
+            right,
+            c.settle.ensures.by_index _ (right_made c.args.file.now c.args.board.now c.args.sizes c.args.tables c.args.block first c.requires.ready.0
+                c.args.states.now c.args.motions.now c.fill_runs.new.tab _ c.requires.ready.1.0 c.requires.space right) lists,
+          );
     }

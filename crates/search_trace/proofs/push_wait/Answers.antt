@@ -6,10 +6,10 @@ use native.Mathlib.Omega.{arith}
 use Rattle.search_trace.proofs.push_wait.Goals as goal
 
 pub returns-then-count-eq0 : goal.returns-then-count-eq0
-returns-then-count-eq0 c =     c.push.ensures ∙ wait_on_none c.args.path.now c.args.count (omega arith)
+returns-then-count-eq0 c = c.push.ensures ∙ wait_on_none c.args.path.now c.args.count (omega arith)
 
 pub returns-then-top-lt-FIRST_MOVE : goal.returns-then-top-lt-FIRST_MOVE
-returns-then-top-lt-FIRST_MOVE c =     c.push-then-top-lt-FIRST_MOVE.ensures ∙ wait_on_wait c.args.path.now c.args.count (omega arith) (omega arith) (omega arith)
+returns-then-top-lt-FIRST_MOVE c = c.push-then-top-lt-FIRST_MOVE.ensures ∙ wait_on_wait c.args.path.now c.args.count (omega arith) (omega arith) (omega arith)
 
 pub returns : goal.returns
-returns c =     c.push-2.ensures ∙ wait_on_move c.args.path.now c.args.count (omega arith) (omega arith)
+returns c = c.push-2.ensures ∙ wait_on_move c.args.path.now c.args.count (omega arith) (omega arith)

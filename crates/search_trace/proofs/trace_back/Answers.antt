@@ -12,10 +12,10 @@ use native.Mathlib.Omega.{arith}
 use Rattle.search_trace.proofs.trace_back.Goals as goal
 
 pub fill_lists-requires : goal.fill_lists-requires
-fill_lists-requires c =     record {
-      motions = (c.requires.motions.0, (c.requires.motions.1.1, omega arith));
-      n_in_bounds = c.requires.goal_lt_states.1.1;
-    }
+fill_lists-requires c = record {
+  motions = (c.requires.motions.0, (c.requires.motions.1.1, omega arith));
+  n_in_bounds = c.requires.goal_lt_states.1.1;
+}
 
 pub loop-t-init : goal.loop-t-init
 unfolding steps_in
@@ -24,7 +24,7 @@ loop-t-init c =
     going_first _ _ _ _ _ _ (well) c.requires.found.0 c.requires.found.1 (omega (arith, (known c.requires.ready.0).states))
 
 pub word_at-w-requires : goal.word_at-w-requires
-word_at-w-requires c =     let g = c.loop-t.invariant in
+word_at-w-requires c = let g = c.loop-t.invariant in
     let k = known c.requires.ready.0 in
     record {
       ready = c.requires.ready;
@@ -34,7 +34,7 @@ word_at-w-requires c =     let g = c.loop-t.invariant in
     }
 
 pub push_wait-count-requires : goal.push_wait-count-requires
-push_wait-count-requires c =     let g = c.loop-t.invariant in
+push_wait-count-requires c = let g = c.loop-t.invariant in
     let later = c.loop-t-test.true in
     (omega (arith, g.few, length_steps c.loop-t.path c.loop-t.count), omega (arith, g.waits, later))
 
@@ -46,20 +46,20 @@ loop-t-preserved-then-w-eq2 c =
 pub overflow_sub-m : goal.overflow_sub-m
 overflow_sub-m c =
     let well : WellFormed (site_of c.args.file.now) = read_well _ _ c.requires.ready.0.read in
-    let motion : Motion c.args.file.now c.args.motions.now c.args.tick c.loop-t.t c.word_at-w.result = let x = c.requires.found in     going_motion _ _ _ _ _ _ (well) _ c.requires.motions.1.0 _ _ _ _ c.loop-t-test.true c.loop-t.invariant c.word_at-w.ensures c.if-w-eq2.false x.0 x.1 in
+    let motion : Motion c.args.file.now c.args.motions.now c.args.tick c.loop-t.t c.word_at-w.result = let x = c.requires.found in going_motion _ _ _ _ _ _ (well) _ c.requires.motions.1.0 _ _ _ _ c.loop-t-test.true c.loop-t.invariant c.word_at-w.ensures c.if-w-eq2.false x.0 x.1 in
     (motion).word
 
 pub push_move-count-requires : goal.push_move-count-requires
 push_move-count-requires c =
     let well : WellFormed (site_of c.args.file.now) = read_well _ _ c.requires.ready.0.read in
-    let motion : Motion c.args.file.now c.args.motions.now c.args.tick c.loop-t.t c.word_at-w.result = let x = c.requires.found in     going_motion _ _ _ _ _ _ (well) _ c.requires.motions.1.0 _ _ _ _ c.loop-t-test.true c.loop-t.invariant c.word_at-w.ensures c.if-w-eq2.false x.0 x.1 in
+    let motion : Motion c.args.file.now c.args.motions.now c.args.tick c.loop-t.t c.word_at-w.result = let x = c.requires.found in going_motion _ _ _ _ _ _ (well) _ c.requires.motions.1.0 _ _ _ _ c.loop-t-test.true c.loop-t.invariant c.word_at-w.ensures c.if-w-eq2.false x.0 x.1 in
     let known_motion : c.word_at-w.result - 3 < c.args.sizes.motions = omega (arith, (motion).known, (known c.requires.ready.0).motions) in
     (omega (arith, c.loop-t.invariant.few, length_steps c.loop-t.path c.loop-t.count), omega (arith, known_motion, c.requires.motions.0.few))
 
 pub from_of-s-requires : goal.from_of-s-requires
 from_of-s-requires c =
     let well : WellFormed (site_of c.args.file.now) = read_well _ _ c.requires.ready.0.read in
-    let motion : Motion c.args.file.now c.args.motions.now c.args.tick c.loop-t.t c.word_at-w.result = let x = c.requires.found in     going_motion _ _ _ _ _ _ (well) _ c.requires.motions.1.0 _ _ _ _ c.loop-t-test.true c.loop-t.invariant c.word_at-w.ensures c.if-w-eq2.false x.0 x.1 in
+    let motion : Motion c.args.file.now c.args.motions.now c.args.tick c.loop-t.t c.word_at-w.result = let x = c.requires.found in going_motion _ _ _ _ _ _ (well) _ c.requires.motions.1.0 _ _ _ _ c.loop-t-test.true c.loop-t.invariant c.word_at-w.ensures c.if-w-eq2.false x.0 x.1 in
     let known_motion : c.word_at-w.result - 3 < c.args.sizes.motions = omega (arith, (motion).known, (known c.requires.ready.0).motions) in
     record {
       motions = c.requires.motions.0;
@@ -69,7 +69,7 @@ from_of-s-requires c =
 pub span_of-span-requires : goal.span_of-span-requires
 span_of-span-requires c =
     let well : WellFormed (site_of c.args.file.now) = read_well _ _ c.requires.ready.0.read in
-    let motion : Motion c.args.file.now c.args.motions.now c.args.tick c.loop-t.t c.word_at-w.result = let x = c.requires.found in     going_motion _ _ _ _ _ _ (well) _ c.requires.motions.1.0 _ _ _ _ c.loop-t-test.true c.loop-t.invariant c.word_at-w.ensures c.if-w-eq2.false x.0 x.1 in
+    let motion : Motion c.args.file.now c.args.motions.now c.args.tick c.loop-t.t c.word_at-w.result = let x = c.requires.found in going_motion _ _ _ _ _ _ (well) _ c.requires.motions.1.0 _ _ _ _ c.loop-t-test.true c.loop-t.invariant c.word_at-w.ensures c.if-w-eq2.false x.0 x.1 in
     let known_motion : c.word_at-w.result - 3 < c.args.sizes.motions = omega (arith, (motion).known, (known c.requires.ready.0).motions) in
     record {
       motions = c.requires.motions.0;
@@ -79,19 +79,19 @@ span_of-span-requires c =
 pub overflow_sub-t-else-w-eq2 : goal.overflow_sub-t-else-w-eq2
 overflow_sub-t-else-w-eq2 c =
     let well : WellFormed (site_of c.args.file.now) = read_well _ _ c.requires.ready.0.read in
-    let motion : Motion c.args.file.now c.args.motions.now c.args.tick c.loop-t.t c.word_at-w.result = let x = c.requires.found in     going_motion _ _ _ _ _ _ (well) _ c.requires.motions.1.0 _ _ _ _ c.loop-t-test.true c.loop-t.invariant c.word_at-w.ensures c.if-w-eq2.false x.0 x.1 in
+    let motion : Motion c.args.file.now c.args.motions.now c.args.tick c.loop-t.t c.word_at-w.result = let x = c.requires.found in going_motion _ _ _ _ _ _ (well) _ c.requires.motions.1.0 _ _ _ _ c.loop-t-test.true c.loop-t.invariant c.word_at-w.ensures c.if-w-eq2.false x.0 x.1 in
     omega (arith, (motion).in_time, c.span_of-span.ensures)
 
 pub loop-t-smaller : goal.loop-t-smaller
 loop-t-smaller c =
     let well : WellFormed (site_of c.args.file.now) = read_well _ _ c.requires.ready.0.read in
-    let motion : Motion c.args.file.now c.args.motions.now c.args.tick c.loop-t.t c.word_at-w.result = let x = c.requires.found in     going_motion _ _ _ _ _ _ (well) _ c.requires.motions.1.0 _ _ _ _ c.loop-t-test.true c.loop-t.invariant c.word_at-w.ensures c.if-w-eq2.false x.0 x.1 in
+    let motion : Motion c.args.file.now c.args.motions.now c.args.tick c.loop-t.t c.word_at-w.result = let x = c.requires.found in going_motion _ _ _ _ _ _ (well) _ c.requires.motions.1.0 _ _ _ _ c.loop-t-test.true c.loop-t.invariant c.word_at-w.ensures c.if-w-eq2.false x.0 x.1 in
     omega (arith, (motion).takes_time, (motion).in_time, c.span_of-span.ensures)
 
 pub loop-t-preserved : goal.loop-t-preserved
 loop-t-preserved c =
     let well : WellFormed (site_of c.args.file.now) = read_well _ _ c.requires.ready.0.read in
-    let motion : Motion c.args.file.now c.args.motions.now c.args.tick c.loop-t.t c.word_at-w.result = let x = c.requires.found in     going_motion _ _ _ _ _ _ (well) _ c.requires.motions.1.0 _ _ _ _ c.loop-t-test.true c.loop-t.invariant c.word_at-w.ensures c.if-w-eq2.false x.0 x.1 in
+    let motion : Motion c.args.file.now c.args.motions.now c.args.tick c.loop-t.t c.word_at-w.result = let x = c.requires.found in going_motion _ _ _ _ _ _ (well) _ c.requires.motions.1.0 _ _ _ _ c.loop-t-test.true c.loop-t.invariant c.word_at-w.ensures c.if-w-eq2.false x.0 x.1 in
     going_move _ _ _ _ _ _ (well) _ c.requires.motions.1.0 _ _ _ _ _ _ _ c.loop-t-test.true c.loop-t.invariant c.word_at-w.ensures c.if-w-eq2.false (motion)
     c.from_of-s.ensures c.span_of-span.ensures c.push_move-count.ensures
 
