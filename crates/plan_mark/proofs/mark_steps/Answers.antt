@@ -1,5 +1,7 @@
 -- `plan_mark::mark_steps` meets its contract. The invariant: marking the steps from the place at on leaves the board as marking all does.
 -- Assumes nothing.
+use Prim.Native.Nat.{◌-◌}
+use mathlib.Core.Path.{refl}
 use mathlib.Core.Path.{sym, ap, ◌∙◌}
 use mathlib.Core.List.{List}
 use Rattle.meaning.specs.Site.{Sweep, site_of}
@@ -65,3 +67,6 @@ returns-in-End c = marks_end c.loop-n.invariant (end_on _ _ (sym c.in-End.is ∙
 
 pub returns-in-Wrong : goal.returns-in-Wrong
 returns-in-Wrong c = absurd (never_wrong _ _ c.loop-n.invariant.laid (sym c.in-Wrong.is ∙ c.step_at.ensures))
+
+pub loop-n-init : goal.loop-n-init
+loop-n-init c = record { rest = refl; room = refl; laid = c.requires.first_value.0; known = c.requires.ready.2; in_time = c.requires.first_value.1 }
