@@ -130,7 +130,7 @@ typedef struct dispatch_drawn {
 
 /* The most bytes of stack that a call takes, also to refuse. A thread needs some more for itself: 16 KiB are plenty. */
 #define DISPATCH_STACK_ROUTE 1000000 /* dispatch_route */
-#define DISPATCH_STACK_LIGHT 66000   /* dispatch_audit, dispatch_post, dispatch_draw */
+#define DISPATCH_STACK_LIGHT 18000   /* dispatch_audit, dispatch_post, dispatch_draw */
 #define DISPATCH_STACK 1000          /* each of the others */
 
 #ifdef __cplusplus

@@ -55,7 +55,7 @@ pub use word::Word;
 pub const STACK_ROUTE: usize = 1_000_000;
 
 /// The most bytes of stack that audit, post and draw take in the archive, also to refuse.
-pub const STACK_LIGHT: usize = 66_000;
+pub const STACK_LIGHT: usize = 18_000;
 
 /// The most bytes of stack that each of the other calls takes in the archive.
 pub const STACK: usize = 1_000;

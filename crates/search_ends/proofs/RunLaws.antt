@@ -91,17 +91,20 @@ pub record Looked (board : List ℕ) (horizon margin cell tick dwell : ℕ) (end
   pub told : (site : Site) → site.horizon ≡ horizon → site.margin ≡ margin → cell < site.cells → Told (free site board cell) horizon dwell ends t run
 
 module _ (board : List ℕ) (horizon margin cell tick dwell : ℕ) where
-  pub looked_none : tick ≤ horizon → Looked board horizon margin cell tick dwell (replicate ticks 0) (horizon + 1) 0
+  pub looked_from : (ends : List ℕ) → length ends ≡ ticks → tick ≤ horizon → Looked board horizon margin cell tick dwell ends (horizon + 1) 0
   unfolding free_run
-  looked_none in_time =
+  looked_from ends sized in_time =
       let none : horizon + 1 - (horizon + 1) ≡ 0 = omega arith in
       record {
         late = omega arith;
         early = omega arith;
         short = omega arith;
-        sized = length-replicate {A = ℕ} ticks 0;
+        sized = sized;
         told = λ site same spaced known. record { run_is = rw none refl; ends_are = λ x lo hi. absurd (omega arith) };
       }
+
+  pub looked_none : tick ≤ horizon → Looked board horizon margin cell tick dwell (replicate ticks 0) (horizon + 1) 0
+  looked_none in_time = looked_from (replicate ticks 0) (length-replicate {A = ℕ} ticks 0) in_time
 
   pub looked_more : (ends : List ℕ) (t run next end : ℕ) → tick < t → horizon < ticks
       → ((site : Site) → site.horizon ≡ horizon → site.margin ≡ margin → cell < site.cells → next ≡ cond (free site board cell (t - 1)) (run + 1) 0)

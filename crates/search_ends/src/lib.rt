@@ -39,6 +39,29 @@ fn long_enough(run: usize, dwell: usize) -> u8
 
 // At each tick from `tick` on 1 where the cell is free for the dwell, which ends by the horizon. The ticks are looked at from the last to the
 // first, so that one look at each tells how long it stays free.
+pub fn fill_ends(
+    board: &[u8],
+    horizon: usize,
+    margin: usize,
+    cell: usize,
+    tick: usize,
+    dwell: usize,
+    ends: &mut [u8; TICKS],
+)
+    requires { Row (length board.now) horizon cell tick }
+    ensures { (site : Site) (goal : ℕ) → site.horizon ≡ horizon → site.margin ≡ margin → cell_of site goal ≡ cell → cell < site.cells
+        → (t : ℕ) → tick ≤ t → t ≤ horizon → get_or ends.new t 0 ≡ cond (can_unload site (free site board.now) (node goal t) dwell) 1 0 }
+{
+    let mut t = horizon + 1;
+    let mut run = 0;
+    while tick < t {
+        t -= 1;
+        run = free_run(board, horizon, margin, cell, t, run);
+        ends[t] = long_enough(run, dwell);
+    }
+}
+
+// The same, handed back. A returned array is copied, so the search fills its own.
 pub fn ends_of(
     board: &[u8],
     horizon: usize,
@@ -52,13 +75,7 @@ pub fn ends_of(
         → (t : ℕ) → tick ≤ t → t ≤ horizon → get_or result t 0 ≡ cond (can_unload site (free site board.now) (node goal t) dwell) 1 0 }
 {
     let mut ends = [0u8; TICKS];
-    let mut t = horizon + 1;
-    let mut run = 0;
-    while tick < t {
-        t -= 1;
-        run = free_run(board, horizon, margin, cell, t, run);
-        ends[t] = long_enough(run, dwell);
-    }
+    fill_ends(board, horizon, margin, cell, tick, dwell, &mut ends);
     ends
 }
 

@@ -383,13 +383,15 @@ pub fn search(
         return Traced::Missing;
     }
     let dock = site_read::state_cell(file, trip.goal as usize);
-    let ends = search_ends::ends_of(
+    let mut ends = [0u8; TICKS];
+    search_ends::fill_ends(
         board,
         sizes.horizon,
         sizes.margin,
         dock,
         tick,
         trip.dwell as usize,
+        &mut ends,
     );
     if !search_ends::some_end(&ends, tick, sizes.horizon) {
         return Traced::Missing;

@@ -28,16 +28,16 @@ pub state_cell-dock-requires : goal.state_cell-dock-requires
 state_cell-dock-requires c = let below = (ranges _ c.args.board.now _ _ c.requires).goal_below in
     (read_laid c.args.file.now _ c.requires.ready.read, omega (arith, same_states _ c.args.board.now _ _ c.requires))
 
-pub ends_of-ends-requires : goal.ends_of-ends-requires
-ends_of-ends-requires c = row _ c.args.board.now _ _ c.requires _ _ (ranges _ c.args.board.now _ _ c.requires).goal_below c.state_cell-dock.ensures.0
+pub fill_ends-requires : goal.fill_ends-requires
+fill_ends-requires c = row _ c.args.board.now _ _ c.requires _ _ (ranges _ c.args.board.now _ _ c.requires).goal_below c.state_cell-dock.ensures.0
 
 pub some_end-requires : goal.some_end-requires
 some_end-requires c = omega (arith, (ranges _ c.args.board.now _ _ c.requires).short)
 
 pub returns-then-not-some_end : goal.returns-then-not-some_end
 returns-then-not-some_end c =
-    let ends_there : EndsRight (site_of c.args.file.now) (free (site_of c.args.file.now) c.args.board.now) c.args.trip.goal c.args.trip.dwell c.args.trip.tick c.ends_of-ends.result = ends_in_lem _ c.args.board.now _ _ c.requires _ c.ends_of-ends.result c.state_cell-dock.ensures.0 c.ends_of-ends.ensures in
-    never_unloads _ c.args.board.now _ _ c.requires c.ends_of-ends.result (ends_there) (c.some_end.ensures c.if-not-some_end.true) _
+    let ends_there : EndsRight (site_of c.args.file.now) (free (site_of c.args.file.now) c.args.board.now) c.args.trip.goal c.args.trip.dwell c.args.trip.tick c.fill_ends.new.ends = ends_in_lem _ c.args.board.now _ _ c.requires _ c.fill_ends.new.ends c.state_cell-dock.ensures.0 c.fill_ends.ensures in
+    never_unloads _ c.args.board.now _ _ c.requires c.fill_ends.new.ends (ends_there) (c.some_end.ensures c.if-not-some_end.true) _
 
 pub longest_span-longest-requires : goal.longest_span-longest-requires
 longest_span-longest-requires c = let q = c.requires in
@@ -49,7 +49,7 @@ longest_span-longest-requires c = let q = c.requires in
 pub search_rows-requires : goal.search_rows-requires
 search_rows-requires c =
     let start_there : c.is_free.result ≡ free (site_of c.args.file.now) c.args.board.now (cell_of (site_of c.args.file.now) c.args.trip.start) c.args.trip.tick = start_is _ c.args.board.now _ _ c.requires _ _ c.state_cell-cell.ensures.0 c.is_free.ensures in
-    let ends_there : EndsRight (site_of c.args.file.now) (free (site_of c.args.file.now) c.args.board.now) c.args.trip.goal c.args.trip.dwell c.args.trip.tick c.ends_of-ends.result = ends_in_lem _ c.args.board.now _ _ c.requires _ c.ends_of-ends.result c.state_cell-dock.ensures.0 c.ends_of-ends.ensures in
+    let ends_there : EndsRight (site_of c.args.file.now) (free (site_of c.args.file.now) c.args.board.now) c.args.trip.goal c.args.trip.dwell c.args.trip.tick c.fill_ends.new.ends = ends_in_lem _ c.args.board.now _ _ c.requires _ c.fill_ends.new.ends c.state_cell-dock.ensures.0 c.fill_ends.ensures in
     let table = c.table_of-tables.ensures in (
       record { asked = c.requires; start_free_lem = sym (start_there) ∙ c.if-not-is_free.false; ends_right = ends_there },
       needed c.args.file.now c.args.sizes _ _ c.longest_span-longest.ensures (ap (λ (n : ℕ). n + 1) table.0) (omega (arith, table.0, table.1)),

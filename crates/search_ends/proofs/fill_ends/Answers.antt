@@ -1,11 +1,12 @@
--- `search_ends::ends_of` meets its contract. The loop's invariant: the ticks from t on have been looked at.
+-- `search_ends::fill_ends` meets its contract. The loop's invariant: the ticks from t on have been looked at.
 -- Assumes nothing.
-use Rattle.search_ends.proofs.RunLaws.{looked_none, looked_more, looked_all}
+use Rattle.search_ends.proofs.RunLaws.{looked_from, looked_more, looked_all}
 use native.Mathlib.Omega.{arith}
-use Rattle.search_ends.proofs.ends_of.Goals as goal
+use borrow.Author.Rules.{rules}
+use Rattle.search_ends.proofs.fill_ends.Goals as goal
 
 pub loop-t-init : goal.loop-t-init
-loop-t-init c = looked_none _ _ _ _ _ _ (omega arith)
+loop-t-init c = looked_from _ _ _ _ _ _ _ (search rules) (omega arith)
 
 pub loop-t-preserved : goal.loop-t-preserved
 loop-t-preserved c = let l = c.loop-t in
