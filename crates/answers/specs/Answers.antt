@@ -1,55 +1,98 @@
--- The answers of the public calls: the number and values of docs/FORMATS.md for each case, and the case for each number.
+-- The answers of the public calls: the number and values of docs/FORMATS.md for each case.
 -- Assumes nothing.
-use Rattle.std.specs.Prelude.{ℕ, zero, suc, List, [], ◌∷◌, get_or}
+use Rattle.std.specs.Prelude.{ℕ, zero, suc, ◌-◌, List, [], ◌∷◌, get_or, Result, Ok, Err}
 use Rattle.meaning.specs.Calls.{Done}
-use Rattle.answers.specs.declared.Answer.{Answer}
-use Rattle.answers.specs.declared.Answer.TheVariants as A
-use Rattle.answers.specs.declared.Counted.{Counted}
-use Rattle.answers.specs.declared.Counted.TheVariants as C
 use Rattle.answers.specs.declared.Granted.{Granted}
-use Rattle.answers.specs.declared.Granted.TheVariants as G
+use Rattle.answers.specs.declared.Refusal.{Refusal}
+use Rattle.answers.specs.declared.Refusal.TheVariants as R
 
--- ---- open, audit, post, close, withdraw: the number alone
+-- ---- refusals
 
-abbrev pub number_of : Answer → ℕ
-number_of A.Accepted = 0
-number_of (A.Refused n) = n
+abbrev pub number : Refusal → ℕ
+number R.SiteTooLong = 1
+number R.SiteCut = 2
+number R.SiteHead = 3
+number R.SiteLayout = 4
+number R.StateCell = 5
+number R.Motion = 6
+number R.BoardLength = 7
+number R.LightLayout = 8
+number R.HolderRange = 9
+number R.OutOfRange = 10
+number R.GoalRolling = 11
+number R.HolderStands = 12
+number R.HolderAbsent = 13
+number R.AreaShort = 14
+number R.LastEdition = 15
+number R.StaleLight = 16
+number R.Conflict = 17
+number R.NoPlan = 18
+number R.TooFar = 19
+number R.NoPicture = 20
 
--- no accepted call is Refused(0)
-abbrev pub answer_of : ℕ → Answer
-answer_of zero = A.Accepted
-answer_of (suc n) = A.Refused (suc n)
+-- ---- every call: 0 if it is accepted
 
--- ---- interval, travel: the number, and beside 0 the count
+abbrev pub number_of : {A : Type 0} → Result A Refusal → ℕ
+number_of (Ok x) = 0
+number_of (Err r) = number r
 
-abbrev pub counted_number : Counted → ℕ
-counted_number (C.Counted n) = 0
-counted_number (C.Refused n) = n
+-- ---- interval, travel: beside 0 the count
 
-abbrev pub counted_values : Counted → List ℕ
-counted_values (C.Counted n) = n ∷ []
-counted_values (C.Refused n) = []
+abbrev pub counted_values : Result ℕ Refusal → List ℕ
+counted_values (Ok n) = n ∷ []
+counted_values (Err r) = []
 
-abbrev pub counted_by : ℕ → List ℕ → Counted
-counted_by zero values = C.Counted (get_or values 0 0)
-counted_by (suc n) values = C.Refused (suc n)
+-- ---- route: beside 0 the light's length and the arrival
 
-abbrev pub counted_of : Done → Counted
+abbrev pub granted_values : Result Granted Refusal → List ℕ
+granted_values (Ok g) = g.len ∷ g.arrival ∷ []
+granted_values (Err r) = []
+
+-- ---- the case for each number
+
+-- every refusal, by rising numbers
+abbrev pub every_refusal : List Refusal
+every_refusal =
+    R.SiteTooLong
+    ∷ R.SiteCut
+    ∷ R.SiteHead
+    ∷ R.SiteLayout
+    ∷ R.StateCell
+    ∷ R.Motion
+    ∷ R.BoardLength
+    ∷ R.LightLayout
+    ∷ R.HolderRange
+    ∷ R.OutOfRange
+    ∷ R.GoalRolling
+    ∷ R.HolderStands
+    ∷ R.HolderAbsent
+    ∷ R.AreaShort
+    ∷ R.LastEdition
+    ∷ R.StaleLight
+    ∷ R.Conflict
+    ∷ R.NoPlan
+    ∷ R.TooFar
+    ∷ R.NoPicture
+    ∷ []
+
+-- of a number from 1 to 20; what stands for another is never used
+abbrev pub refusal_of : ℕ → Refusal
+refusal_of n = get_or every_refusal (n - 1) R.SiteTooLong
+
+abbrev pub answer_of : ℕ → Result Unit Refusal
+answer_of zero = Ok tt
+answer_of (suc n) = Err (refusal_of (suc n))
+
+abbrev pub counted_by : ℕ → List ℕ → Result ℕ Refusal
+counted_by zero values = Ok (get_or values 0 0)
+counted_by (suc n) values = Err (refusal_of (suc n))
+
+abbrev pub counted_of : Done → Result ℕ Refusal
 counted_of d = counted_by d.number d.values
 
--- ---- route: the number, and beside 0 the light's length and the arrival
+abbrev pub granted_by : ℕ → List ℕ → Result Granted Refusal
+granted_by zero values = Ok (record { len = get_or values 0 0; arrival = get_or values 1 0 })
+granted_by (suc n) values = Err (refusal_of (suc n))
 
-abbrev pub granted_number : Granted → ℕ
-granted_number (G.Granted len arrival) = 0
-granted_number (G.Refused n) = n
-
-abbrev pub granted_values : Granted → List ℕ
-granted_values (G.Granted len arrival) = len ∷ arrival ∷ []
-granted_values (G.Refused n) = []
-
-abbrev pub granted_by : ℕ → List ℕ → Granted
-granted_by zero values = G.Granted (get_or values 0 0) (get_or values 1 0)
-granted_by (suc n) values = G.Refused (suc n)
-
-abbrev pub granted_of : Done → Granted
+abbrev pub granted_of : Done → Result Granted Refusal
 granted_of d = granted_by d.number d.values

@@ -1,23 +1,45 @@
-// The answers of the public calls. A refusal carries its number, which is never 0.
+// The answers of the public calls: what an accepted call tells, or why it is refused.
 #![tactic(auto)]
 
-// The answer of a call that returns its number alone.
-#[derive(Clone, Copy)]
-pub enum Answer {
-    Accepted,
-    Refused(u8),
+ghost use Rattle.std.specs.Prelude.{◌≡◌};
+ghost use Rattle.answers.specs.Answers.{number};
+
+// Why a call is refused, with the number of docs/FORMATS.md.
+#[derive(Clone, Copy, PartialEq, Eq)]
+pub enum Refusal {
+    SiteTooLong = 1,
+    SiteCut = 2,
+    SiteHead = 3,
+    SiteLayout = 4,
+    StateCell = 5,
+    Motion = 6,
+    BoardLength = 7,
+    LightLayout = 8,
+    HolderRange = 9,
+    OutOfRange = 10,
+    GoalRolling = 11,
+    HolderStands = 12,
+    HolderAbsent = 13,
+    AreaShort = 14,
+    LastEdition = 15,
+    StaleLight = 16,
+    Conflict = 17,
+    NoPlan = 18,
+    TooFar = 19,
+    NoPicture = 20,
 }
 
-// The answer of a call that counts: interval how many intervals there are, travel how many ticks.
-#[derive(Clone, Copy)]
-pub enum Counted {
-    Counted(u16),
-    Refused(u8),
+impl From<Refusal> for u8 {
+    ghost from_gives = { λ r n. n ≡ number r };
+
+    fn from(r: Refusal) -> u8 {
+        r as u8
+    }
 }
 
-// The answer of route: the light's length in bytes and the arrival.
+// What a granted route tells: the light's length in bytes, and the arrival.
 #[derive(Clone, Copy)]
-pub enum Granted {
-    Granted(u16, u16),
-    Refused(u8),
+pub struct Granted {
+    pub len: u16,
+    pub arrival: u16,
 }
