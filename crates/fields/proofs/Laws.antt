@@ -7,9 +7,6 @@ use mathlib.Core.Bool.{Bool, true, false, true≢false}
 use native.Mathlib.Omega.{arith}
 use lib.ListN.{length, get_or, drop, length-drop}
 use lib.Seq.{drop-drop, get_or-drop, get_or-take, length-take-le}
-use mathlib.Core.Logic.{inl, inr}
-use denote.Enum.Declared.{tag_of}
-use types.Run.{OneOf}
 use lib.Dec.{leb}
 use borrow.Author.Tests.{leb-true, leb-false}
 use Rattle.meaning.specs.Basics.{u16_at, all}
@@ -20,7 +17,6 @@ use Rattle.fields.specs.Items.{first_item, item_of}
 use Rattle.fields.specs.declared.Header.{Header}
 use Rattle.fields.specs.declared.Item.{Item}
 use Rattle.fields.specs.declared.Item.TheVariants.{Cut, End}
-use Rattle.fields.specs.contracts.Item.{the_type}
 
 -- ---- by place
 u16_drop : (file : List ℕ) (at i : ℕ) → u16_at (drop at file) i ≡ u16_at file (at + i)
@@ -185,13 +181,6 @@ module _ (s : List ℕ) (at : ℕ) where
       (λ r. let i = item_field s at _ refl r in let z : ◌≡◌ {A = ℕ} 0 1 = cc in absurd (omega arith))
 
   -- where the answer is no field, none is listed from there on
-  pub no_field : (k : Item) → OneOf (1 ∷ 2 ∷ []) (tag_of the_type k) → k ≡ item_of s at → listed (fields_at s at) ≡ []
-  unfolding listed
-  no_field (Item.Field h) (inl met) e = absurd (omega arith)
-  no_field (Item.Field h) (inr met) e = absurd (omega arith)
-  no_field Cut met e = ap listed (is_cut e)
-  no_field End met e = ap listed (at_end s at (is_end e))
-
   pub not_field : (k : Item) → ((h : Header) → k ≡ Item.Field h → ⊥) → k ≡ item_of s at → listed (fields_at s at) ≡ []
   unfolding listed
   not_field (Item.Field h) met e = absurd (met h refl)
@@ -252,10 +241,15 @@ module _ (s : List ℕ) (at : ℕ) (h : Header) (w : Whole s at h) where
       let n = w.len in
       value_u16 s at i (omega arith) ∙ ap (λ (k : ℕ). u16_at s (k + i)) (sym w.start)
 
--- no fields are complete that are cut
-pub cut_incomplete : (s : List ℕ) (at : ℕ) → fields_at s at ≡ cut → complete (fields_at s at) ≡ false
+-- no fields are complete that are cut, and short of the end what is no field is one that is cut
+cut_incomplete : (s : List ℕ) (at : ℕ) → fields_at s at ≡ cut → complete (fields_at s at) ≡ false
 unfolding complete
 cut_incomplete s at e = ap complete e
+
+pub not_field_cut : (s : List ℕ) (at : ℕ) (k : Item) → ((h : Header) → k ≡ Item.Field h → ⊥) → k ≡ item_of s at → at < length s → complete (fields_at s at) ≡ false
+not_field_cut s at (Item.Field h) met e p = absurd (met h refl)
+not_field_cut s at Cut met e p = cut_incomplete s at (is_cut s at e)
+not_field_cut s at End met e p = let q = is_end s at e in absurd (omega arith)
 
 -- ---- the answer in the words of the definition: the fields of the bytes from the place on
 module _ (s : List ℕ) (at : ℕ) where

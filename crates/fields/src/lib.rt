@@ -47,7 +47,7 @@ pub fn number_at(s: &[u8], at: usize) -> usize
     requires { at + 1 < length s.now }
     ensures { (result ≡ u16_at s.now at) × (result < 65536) }
 {
-    byte_at(s, at) * 256 + byte_at(s, at + 1)
+    u16_at(s, at) as usize
 }
 
 // The same as a number of two bytes.
@@ -55,7 +55,7 @@ pub fn u16_at(s: &[u8], at: usize) -> u16
     requires { at + 1 < length s.now }
     ensures { result ≡ u16_at s.now at }
 {
-    number_at(s, at) as u16
+    u16::from_be_bytes([s[at], s[at + 1]])
 }
 
 // The work: what stands at a position of a slice.
@@ -81,63 +81,48 @@ pub fn item_at(s: &[u8], at: usize) -> Item
     })
 }
 
-// A reader at the first byte.
-pub fn new<'a>(bytes: &'a [u8]) -> Reader<'a>
-    ensures { (result.bytes ≡ bytes.entry) × (result.at ≡ 0) }
-{
-    Reader { bytes, at: 0 }
-}
+impl<'a> Reader<'a> {
+    // A reader at the first byte.
+    pub fn new(bytes: &'a [u8]) -> Self
+        ensures { (result.bytes ≡ bytes.entry) × (result.at ≡ 0) }
+    {
+        Reader { bytes, at: 0 }
+    }
 
-// What stands at the reader's position.
-pub fn next<'a>(r: Reader<'a>) -> Item
-    ensures { result ≡ item_of r.entry.bytes.now r.entry.at }
-{
-    item_at(r.bytes, r.at)
-}
+    // What stands at the reader's position.
+    pub fn next(self) -> Item
+        ensures { result ≡ item_of self.entry.bytes.now self.entry.at }
+    {
+        item_at(self.bytes, self.at)
+    }
 
-// The reader at another position.
-pub fn moved<'a>(r: Reader<'a>, at: usize) -> Reader<'a>
-    ensures { (result.bytes ≡ r.entry.bytes) × (result.at ≡ at) }
-{
-    Reader { bytes: r.bytes, at }
+    // The reader at another position.
+    pub fn moved(self, at: usize) -> Self
+        ensures { (result.bytes ≡ self.entry.bytes) × (result.at ≡ at) }
+    {
+        Reader { at, ..self }
+    }
 }
 
 // The reader for every other caller: a plain slice in, and plain data out.
 pub fn read_item(s: &[u8], at: usize) -> Item
     ensures { result ≡ item_of s.now at }
 {
-    next(moved(new(s), at))
+    Reader::new(s).moved(at).next()
 }
 
-// No field of the bytes is cut.
+// No field of the bytes is cut. A walk, not a loop over an index: where the next field starts comes from the data.
 pub fn fields_complete(s: &[u8]) -> bool
     ensures { result ≡ complete (fields s.now) }
 {
     let mut at = 0;
     while at < s.len() {
-        match read_item(s, at) {
-            Item::Field(h) => {
-                at = h.next;
-            }
-            Item::Cut => {
-                return false;
-            }
-            Item::End => {
-                return true;
-            }
-        }
+        let Item::Field(h) = read_item(s, at) else {
+            return false;
+        };
+        at = h.next;
     }
     true
-}
-
-// What stands for a header where none is.
-fn no_field(at: usize) -> Header {
-    Header {
-        tag: 0,
-        start: at,
-        len: 0,
-        next: at,
-    }
 }
 
 // The field at `at`, in bytes of which none is cut.
@@ -145,10 +130,10 @@ pub fn header_at(s: &[u8], at: usize) -> Header
     requires { (complete (fields_at s.now at) ≡ true) × (at < length s.now) }
     ensures { Whole s.now at result × (complete (fields_at s.now result.next) ≡ true) }
 {
-    match read_item(s, at) {
-        Item::Field(h) => h,
-        _ => no_field(at),
-    }
+    let Item::Field(h) = read_item(s, at) else {
+        unreachable!();
+    };
+    h
 }
 
 // Where the field after the one at `at` starts.
@@ -156,11 +141,10 @@ pub fn next_field(s: &[u8], at: usize) -> usize
     requires { (complete (fields_at s.now at) ≡ true) × (at < length s.now) }
     ensures { Next s.now at result }
 {
-    let h = header_at(s, at);
-    h.next
+    header_at(s, at).next
 }
 
-// How many fields there are from `start` on.
+// How many fields there are from `start` on. A walk as in `fields_complete`, with the count beside it.
 pub fn count_fields(s: &[u8], start: usize) -> usize
     requires { (complete (fields_at s.now start) ≡ true) × (start ≤ length s.now) }
     ensures { result ≡ length (listed (fields_at s.now start)) }
@@ -169,7 +153,7 @@ pub fn count_fields(s: &[u8], start: usize) -> usize
     let mut n = 0;
     while at < s.len() {
         at = next_field(s, at);
-        n = n + 1;
+        n += 1;
     }
     n
 }

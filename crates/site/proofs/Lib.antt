@@ -1,3 +1,2 @@
-mod NumberLaws
-pub mod ReadLaws
-mod TripLaws
+mod PlaceLaws
+pub mod SizeLaws

@@ -1,14 +1,20 @@
 // The site file: the check of any file, and what an accepted one says of its sizes.
 #![tactic(auto)]
 
-ghost use Rattle.std.specs.Prelude.{◌≡◌, ◌≤◌, length};
+mod hall;
+
+ghost use Rattle.std.specs.Prelude.{◌≡◌, ◌≤◌, length, IfOk};
+ghost use Rattle.meaning.specs.Answers.{lowest};
 ghost use Rattle.meaning.specs.Plan.{node};
 ghost use Rattle.meaning.specs.Calls.{trip_named};
-ghost use Rattle.meaning.specs.Site.{Site, read_site};
-ghost use Rattle.site_layout.specs.Laid.{HeadIs, Laid};
-ghost use Rattle.site.specs.Check.{sizes_of, check_of};
+ghost use Rattle.meaning.specs.Site.{Site, site_of, site_refusals};
+ghost use Rattle.answers.specs.Answers.{number_of};
+ghost use Rattle.site_layout.specs.Laid.{HeadIs};
+ghost use Rattle.site.specs.Check.{sizes_of};
 
-use site_layout::Head;
+use answers::Refusal;
+pub use hall::Hall;
+use site_layout::{Head, SiteFile};
 
 // The most bytes of a site file.
 pub const FILE_LIMIT: usize = 65536;
@@ -38,49 +44,39 @@ pub struct Trip {
 }
 
 // The start state, the start tick and the goal state are the site's, and the dwell is within its limit.
+#[tactic(auto, unfolding(meaning::specs::Calls::trip_named, meaning::specs::Basics::every))]
 pub fn trip_named(sizes: Sizes, trip: Trip) -> bool
     ensures { (site : Site) → sizes ≡ sizes_of site → result ≡ trip_named site (node trip.start trip.tick) trip.goal trip.dwell }
 {
-    if sizes.states <= trip.start as usize {
-        return false;
-    }
-    if sizes.horizon < trip.tick as usize {
-        return false;
-    }
-    if sizes.states <= trip.goal as usize {
-        return false;
-    }
-    trip.dwell <= DWELL_LIMIT
-}
-
-// What checks answer: all passed, with the sizes of the site, or the lowest number that applies.
-#[derive(Clone, Copy)]
-pub enum Check {
-    Passed(Sizes),
-    Refused(u8),
+    (trip.start as usize) < sizes.states
+        && trip.tick as usize <= sizes.horizon
+        && (trip.goal as usize) < sizes.states
+        && trip.dwell <= DWELL_LIMIT
 }
 
 // The checks 5 and 6, in a file that passed those before.
-fn check_values(file: &[u8], head: Head) -> Check
-    requires { (length file.now ≤ 65536) × Laid file.now × HeadIs file.now head }
-    ensures { result ≡ check_of (read_site file.now) }
+#[tactic(auto, using(site_layout::proofs::Laws::states_few), unfolding(meaning::specs::Site::site_refusals, meaning::specs::Answers::lowest))]
+fn check_values(file: &SiteFile<'_>, head: Head) -> Result<Sizes, Refusal>
+    requires { (length file.now.bytes.now ≤ 65536) × HeadIs file.now.bytes.now head }
+    ensures number { number_of result ≡ lowest (site_refusals file.now.bytes.now) }
+    ensures sizes { IfOk result (λ l. l ≡ sizes_of (site_of file.now.bytes.now)) }
 {
     let cells = head.cells;
     let count = head.states;
     let start = site_read::state_place(count);
     let states_pass = site_values::states_good(file, count, cells);
-    let leading = site_layout::leading_motions(file, start);
+    let leading = site_layout::leading_motions(file.bytes, start);
     let motions = leading.count;
     let behind = leading.next;
-    let centres = fields::count_fields(file, behind);
+    let centres = fields::count_fields(file.bytes, behind);
     let motions_pass = site_values::motions_good(file, start, motions, count, cells);
     if !states_pass {
-        return Check::Refused(5);
+        return Err(Refusal::StateCell);
     }
     if !motions_pass {
-        return Check::Refused(6);
+        return Err(Refusal::Motion);
     }
-    Check::Passed(Sizes {
+    Ok(Sizes {
         horizon: head.horizon,
         cells,
         margin: head.margin,
@@ -91,22 +87,24 @@ fn check_values(file: &[u8], head: Head) -> Check
     })
 }
 
-// The check of any file: accepted, or the lowest number that applies.
-pub fn check_site(file: &[u8]) -> Check
-    ensures { result ≡ check_of (read_site file.now) }
+// The check of any file: the sizes of an accepted one, or the refusal with the lowest number that applies.
+#[tactic(auto, using(crate::proofs::PlaceLaws::layout_same, site_layout::proofs::Laws::head_here), unfolding(meaning::specs::Site::site_refusals, meaning::specs::Answers::lowest))]
+pub fn check_site(file: &[u8]) -> Result<Sizes, Refusal>
+    ensures number { number_of result ≡ lowest (site_refusals file.now) }
+    ensures sizes { IfOk result (λ l. l ≡ sizes_of (site_of file.now)) }
 {
     if FILE_LIMIT < file.len() {
-        return Check::Refused(1);
+        return Err(Refusal::SiteTooLong);
     }
     if !fields::fields_complete(file) {
-        return Check::Refused(2);
+        return Err(Refusal::SiteCut);
     }
     if !site_layout::head_good(file) {
-        return Check::Refused(3);
+        return Err(Refusal::SiteHead);
     }
     let head = site_layout::read_head(file);
     if !site_layout::layout_good(file, head.start, head.states, head.cells) {
-        return Check::Refused(4);
+        return Err(Refusal::SiteLayout);
     }
-    check_values(file, head)
+    check_values(&SiteFile { bytes: file }, head)
 }

@@ -1,12 +1,12 @@
 -- Laws of what one sweep hands over, of the offsets that single sweeps link, and of a test of all offsets below a span.
 -- Assumes nothing.
 use Prim.Native.Nat.{ℕ, zero, suc, ◌+◌, ◌≤◌, ◌<◌}
-use mathlib.Core.Path.{◌≡◌, refl, sym, ◌∙◌}
-use mathlib.Core.List.{List}
-use mathlib.Core.Bool.{Bool, true, false, ◌&&◌, and-false}
+use mathlib.Core.Path.{◌≡◌, refl, sym, ap, ◌∙◌}
+use mathlib.Core.List.{List, [], ◌∷◌}
+use mathlib.Core.Bool.{Bool, true, false, ◌&&◌, and-false, or-true}
 use native.Mathlib.Omega.{arith}
 use native.Mathlib.Numerals.{add-one}
-use lib.ListN.{get_or}
+use lib.ListN.{length, get_or}
 use lib.Dec.{eqb, ltb}
 use borrow.Author.Tests.{eqb-true, eqb-false, ltb-true, ltb-false}
 use Rattle.meaning.specs.Basics.{any, all_below}
@@ -15,6 +15,8 @@ use Rattle.meaning.specs.Site.{Sweep, covers, uses, handover}
 use Rattle.meaning.proofs.BasicsLaws.{decide, and_left, and_right, any_at, any_from_lem, any_some, some_any, same_test, below_at, below_all}
 use Rattle.meaning.proofs.RunLaws.{lies_in, in_meets, covered, all_covered}
 use Rattle.meaning.proofs.MotionLaws.{uses_true, true_uses, handover_true, true_handover}
+use Rattle.site_sweeps.specs.Places.{sweep_at, sweeps_in, sweep_of, SweepIs}
+use Rattle.site_sweeps.specs.declared.Sweep as ReadSweep
 use Rattle.site_handover.specs.Links.{hands_over, last_from, Linked}
 
 -- ---- the last offset of a sweep that uses j
@@ -64,14 +66,21 @@ hands_over_lem ws j = same_test (any (hands_over ws j) ws) (handover ws j) there
 abbrev pub Among : List Sweep → Sweep → Type 0
 Among ws w = (p : Sweep → Bool) → p w ≡ true → any p ws ≡ true
 
+-- those that are read one after the other are
+any_here : (q : Sweep → Bool) (bs : List (List ℕ)) (i : ℕ) → i < length bs → q (sweep_at (get_or bs i []) 0) ≡ true → any q (sweeps_in bs) ≡ true
+unfolding any
+any_here q [] i p h = absurd (omega arith)
+any_here q (b ∷ bs) zero p h = rw h
+any_here q (b ∷ bs) (suc i) p h = rw (any_here q bs i (omega arith) h, or-true)
+
+pub among_read : (bs : List (List ℕ)) (i : ℕ) (r : ReadSweep.Sweep) → i < length bs → SweepIs (sweep_at (get_or bs i []) 0) r → Among (sweeps_in bs) (sweep_of r)
+among_read bs i r p s q h = any_here q bs i p (ap q (sym s.same) ∙ h)
+
 by_one : (ws : List Sweep) (w : Sweep) → Among ws w → (i : ℕ) → w.first ≤ i → i + 1 ≤ w.last → handover ws i ≡ true
 unfolding uses
 by_one ws w m i lo hi =
     let next : uses ws w.cell (i + 1) ≡ true = m (covers w.cell (i + 1)) (all_covered w.cell (i + 1) w (refl, omega arith, hi)) in
     sym (hands_over_lem ws i) ∙ m (hands_over ws i) (simp (in_meets w.first w.last i (lo, omega arith), next))
-
-pub linked_none : (ws : List Sweep) (j : ℕ) → Linked ws j j
-linked_none ws j = record { on = omega arith; each = λ i h k. absurd (omega arith) }
 
 -- a sweep that uses the offset r lengthens what is linked up to r
 longer : (ws : List Sweep) (w : Sweep) → Among ws w → (j r : ℕ) → w.first ≤ r → r ≤ w.last → Linked ws j r → Linked ws j w.last
@@ -87,9 +96,6 @@ linked_on ws w m j r q l e =
     decide (meets w.first w.last r r)
     (λ t. let (lo, hi) = lies_in w.first w.last r t in rw (e, t) (longer ws w m j r lo hi l))
     (λ t. rw (e, t) l)
-
-pub linked_next : (ws : List Sweep) (j : ℕ) → handover ws j ≡ true → Linked ws j (j + 1)
-linked_next ws j e = record { on = omega arith; each = λ i h k. let same : i ≡ j = omega arith in rw same e }
 
 pub linked_below : (ws : List Sweep) (j r : ℕ) → all_below (handover ws) j ≡ true → Linked ws j r → all_below (handover ws) r ≡ true
 linked_below ws j r h l =

@@ -1,39 +1,28 @@
 // The handovers of one motion: at each offset below its span some cell is used there and at the next one; and all rules on its sweeps.
 #![tactic(auto)]
 
-ghost use Rattle.std.specs.Prelude.{◌≡◌, false, ◌+◌, ◌*◌, ◌<◌, ◌≤◌, length};
-ghost use Rattle.meaning.specs.Limits.{sweep_size};
+ghost use Rattle.std.specs.Prelude.{◌≡◌, false, ◌<◌, ◌≤◌};
 ghost use Rattle.meaning.specs.Basics.{all_below};
 ghost use Rattle.meaning.specs.Site.{handover, sweeps_good};
-ghost use Rattle.site_sweeps.specs.Places.{sweeps_at, sweep_of};
+ghost use Rattle.site_sweeps.specs.Places.{sweeps_in, sweep_of};
 ghost use Rattle.site_handover.specs.Links.{hands_over, last_from, Linked};
 
-use site_sweeps::Sweep;
+use site_sweeps::{SWEEP_SIZE, Sweep};
 
 // The sweep uses the offset `j`, and its cell is used at `j` + 1.
-fn hands_over(file: &[u8], at: usize, count: usize, w: Sweep, j: u8) -> bool
-    requires { (at + sweep_size * count ≤ length file.now) × (j < 255) }
-    ensures { result ≡ hands_over (sweeps_at file.now at count) j (sweep_of w) }
+fn hands_over(sweeps: &[[u8; SWEEP_SIZE]], w: Sweep, j: u8) -> bool
+    requires { j < 255 }
+    ensures { result ≡ hands_over (sweeps_in sweeps.now) j (sweep_of w) }
 {
-    if !site_sweeps::meets(w.first, w.last, j, j) {
-        return false;
-    }
-    site_sweeps::used(file, at, count, w.cell, j + 1)
+    site_sweeps::meets(w.first, w.last, j, j) && site_sweeps::used(sweeps, w.cell, j + 1)
 }
 
 // Some one cell is used at both `j` and `j` + 1.
-fn handed_over(file: &[u8], at: usize, count: usize, j: u8) -> bool
-    requires { (at + sweep_size * count ≤ length file.now) × (j < 255) }
-    ensures { result ≡ handover (sweeps_at file.now at count) j }
+fn handed_over(sweeps: &[[u8; SWEEP_SIZE]], j: u8) -> bool
+    requires { j < 255 }
+    ensures { result ≡ handover (sweeps_in sweeps.now) j }
 {
-    let mut i = 0;
-    while i < count {
-        if hands_over(file, at, count, site_sweeps::read_sweep(file, at, i), j) {
-            return true;
-        }
-        i = i + 1;
-    }
-    false
+    sweeps.iter().any(|s| hands_over(sweeps, Sweep::from(s), j))
 }
 
 // The last offset of the sweep, if the sweep uses the offset `j`; else `j`. It is `j` either way where the sweep does not end later, so of
@@ -41,52 +30,43 @@ fn handed_over(file: &[u8], at: usize, count: usize, j: u8) -> bool
 fn last_from(w: Sweep, j: u8) -> u8
     ensures { result ≡ last_from (sweep_of w) j }
 {
-    if w.last <= j {
-        return j;
+    if j < w.last && site_sweeps::meets(w.first, w.last, j, j) {
+        w.last
+    } else {
+        j
     }
-    if site_sweeps::meets(w.first, w.last, j, j) {
-        return w.last;
-    }
-    j
 }
 
 // An offset up to which single sweeps, one after the other, hand over from `j` on.
-fn linked_to(file: &[u8], at: usize, count: usize, j: u8) -> u8
-    requires { at + sweep_size * count ≤ length file.now }
-    ensures { Linked (sweeps_at file.now at count) j result }
+fn linked_to(sweeps: &[[u8; SWEEP_SIZE]], j: u8) -> u8
+    ensures { Linked (sweeps_in sweeps.now) j result }
 {
     let mut end = j;
-    let mut i = 0;
-    while i < count {
-        end = last_from(site_sweeps::read_sweep(file, at, i), end);
-        i = i + 1;
+    for s in sweeps {
+        end = last_from(Sweep::from(s), end);
     }
     end
 }
 
 // An offset up to which there are handovers from `j` on: `j` only where there is none at `j`.
-fn handed_to(file: &[u8], at: usize, count: usize, j: u8) -> u8
-    requires { (at + sweep_size * count ≤ length file.now) × (j < 255) }
-    ensures { Linked (sweeps_at file.now at count) j result × (result ≤ j → handover (sweeps_at file.now at count) j ≡ false) }
+fn handed_to(sweeps: &[[u8; SWEEP_SIZE]], j: u8) -> u8
+    requires { j < 255 }
+    ensures { Linked (sweeps_in sweeps.now) j result × (result ≤ j → handover (sweeps_in sweeps.now) j ≡ false) }
 {
-    let end = linked_to(file, at, count, j);
+    let end = linked_to(sweeps, j);
     if j < end {
         return end;
     }
-    if handed_over(file, at, count, j) {
-        return j + 1;
-    }
-    j
+    if handed_over(sweeps, j) { j + 1 } else { j }
 }
 
-// There is a handover at each offset below `span`.
-fn all_handed_over(file: &[u8], at: usize, count: usize, span: u8) -> bool
-    requires { at + sweep_size * count ≤ length file.now }
-    ensures { result ≡ all_below (handover (sweeps_at file.now at count)) span }
+// There is a handover at each offset below `span`. No loop over an index: the next offset comes from the sweeps.
+fn all_handed_over(sweeps: &[[u8; SWEEP_SIZE]], span: u8) -> bool
+    ensures { result ≡ all_below (handover (sweeps_in sweeps.now)) span }
 {
     let mut j: u8 = 0;
     while j < span {
-        let next = handed_to(file, at, count, j);
+        let next = handed_to(sweeps, j);
         if next <= j {
             return false;
         }
@@ -96,29 +76,12 @@ fn all_handed_over(file: &[u8], at: usize, count: usize, span: u8) -> bool
 }
 
 // The sweeps keep to the cells and the span, start at the cell `x`, end at the cell `y`, and hand over.
-pub fn sweeps_pass(
-    file: &[u8],
-    first: usize,
-    count: usize,
-    span: u8,
-    cells: usize,
-    x: usize,
-    y: usize,
-) -> bool
-    requires { first + sweep_size * count ≤ length file.now }
-    ensures { result ≡ sweeps_good cells x y span (sweeps_at file.now first count) }
+#[tactic(auto, unfolding(meaning::specs::Site::sweeps_good))]
+pub fn sweeps_pass(sweeps: &[[u8; SWEEP_SIZE]], span: u8, cells: usize, x: usize, y: usize) -> bool
+    ensures { result ≡ sweeps_good cells x y span (sweeps_in sweeps.now) }
 {
-    if site_sweeps::sweeps_good(file, first, count, cells, span) {
-        if site_sweeps::used(file, first, count, x, 0) {
-            if site_sweeps::used(file, first, count, y, span) {
-                all_handed_over(file, first, count, span)
-            } else {
-                false
-            }
-        } else {
-            false
-        }
-    } else {
-        false
-    }
+    site_sweeps::sweeps_good(sweeps, cells, span)
+        && site_sweeps::used(sweeps, x, 0)
+        && site_sweeps::used(sweeps, y, span)
+        && all_handed_over(sweeps, span)
 }

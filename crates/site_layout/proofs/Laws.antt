@@ -3,11 +3,14 @@
 use Prim.Native.Nat.{ℕ, zero, suc, ◌+◌, ◌*◌, ◌-◌, ◌≤◌, ◌<◌}
 use mathlib.Core.Path.{◌≡◌, refl, sym, ap, ◌∙◌, subst}
 use mathlib.Core.List.{List, [], ◌∷◌, map}
-use mathlib.Core.Bool.{Bool, true, false, true≢false, and-false}
+use mathlib.Core.Bool.{Bool, true, false, ◌&&◌, true≢false, and-false}
 use native.Mathlib.Omega.{arith}
 use lib.ListN.{length, get_or, take, drop}
 use lib.Dec.{leb, eqb}
-use borrow.Author.Tests.{eqb-true, eqb-false, leb-true, leb-false, le-leb, lt-leb, eq-eqb, ne_eqb}
+use borrow.Author.Tests.{eqb-true, eqb-false, leb-true, leb-false, le-leb, lt-leb, ne_eqb}
+use Rattle.std.specs.Prelude.{Option, Some, None}
+use Rattle.std.specs.Bool.{then_some}
+use Rattle.std.specs.Option.{option_eq, MatchOption}
 use Rattle.meaning.specs.Limits.{state_limit, motion_limit, centre_tag, head_size, state_size}
 use Rattle.meaning.specs.Basics.{all, u16_at}
 use Rattle.meaning.specs.Fields.{Field, no_field, Fields, fields, complete, listed}
@@ -18,7 +21,7 @@ use Rattle.meaning.proofs.SiteLaws.{state_number}
 use Rattle.fields.specs.declared.Header.{Header}
 use Rattle.fields.specs.Places.{fields_at, field_at, Next, Whole}
 use Rattle.fields.proofs.Laws.{by_place, whole_at, at_next, room, listed_end, listed_next, value_length, field_tag, value_byte, value_u16, next_is, whole_listed, whole_length, fields_all_hit, fields_all_miss}
-use Rattle.site_layout.specs.Laid.{first_is, head_values, motion_length, leading, head_field, state_field, state_place, Laid, StateValue}
+use Rattle.site_layout.specs.Laid.{first_is, tagged, head_values, motion_length, leading, head_field, state_field, state_place, Laid, StateValue}
 
 -- ---- the first field from a place on
 
@@ -30,13 +33,20 @@ pub first_none : (p : Field → Bool) (file : List ℕ) (at : ℕ) → listed (f
 unfolding first_is
 first_none p file at none = rw none
 
+-- the header of a whole field
+header_there : (file : List ℕ) (at : ℕ) → at + 3 + u16_at file (at + 1) ≤ length file → (h : Header) × Whole file at h
+header_there file at r = (
+  record { tag = get_or file at 0; start = at + 3; len = u16_at file (at + 1); next = at + 3 + u16_at file (at + 1) },
+  record { tag = refl; start = refl; len = refl; next = refl; inside = r; fields = at_next file at _ refl r },
+)
+
 -- ---- the head
 
 headed : (file : List ℕ) (fs : List Field) → listed (fields_at file 0) ≡ fs → head_of file ≡ get_or fs 0 no_field
 unfolding head_of
 headed file fs e = ap (λ (x : Fields). get_or (listed x) 0 no_field) (sym (whole_at file)) ∙ ap (λ (x : List Field). get_or x 0 no_field) e
 
-pub head_none : (file : List ℕ) → listed (fields_at file 0) ≡ [] → head_good (head_of file) ≡ false
+head_none : (file : List ℕ) → listed (fields_at file 0) ≡ [] → head_good (head_of file) ≡ false
 unfolding head_good
 head_none file none = rw (headed file _ none)
 
@@ -50,21 +60,30 @@ module _ (file : List ℕ) (h : Header) (w : Whole file 0 h) where
   length_here : length (head_of file).value ≡ h.len
   length_here = ap (λ (f : Field). length f.value) head_is ∙ whole_length file 0 h w
 
-  pub head_tag_lem : (h.tag ≡ 1 → ⊥) → head_good (head_of file) ≡ false
+  head_tag_lem : (h.tag ≡ 1 → ⊥) → head_good (head_of file) ≡ false
   unfolding head_good
   head_tag_lem d = simp (tag_here, ne_eqb h.tag 1 d)
 
-  pub head_length : (h.len ≡ head_size → ⊥) → head_good (head_of file) ≡ false
+  head_length : (h.len ≡ head_size → ⊥) → head_good (head_of file) ≡ false
   unfolding head_good
   head_length d = simp (length_here, ne_eqb h.len head_size d, and-false)
 
-  pub head_values_lem : h.tag ≡ 1 → h.len ≡ head_size → head_good (head_of file) ≡ head_values file h.start
+  head_values_lem : h.tag ≡ 1 → h.len ≡ head_size → head_good (head_of file) ≡ head_values file h.start
   unfolding head_good head_values
   head_values_lem p q =
       let n = w.len in
       let t : (field_at file 0).tag ≡ 1 = field_tag file 0 ∙ sym w.tag ∙ p in
       let l : length (field_at file 0).value ≡ head_size = whole_length file 0 h w ∙ q in
       simp (head_is, t, l, w.start, value_u16 file 0 0 (omega arith), value_u16 file 0 2 (omega arith), value_u16 file 0 4 (omega arith), value_byte file 0 6 (omega arith))
+
+  pub head_by : head_good (head_of file) ≡ ((eqb h.tag 1 && eqb h.len 7) && head_values file h.start)
+  head_by =
+      decide (eqb h.tag 1)
+      (λ t.
+      decide (eqb h.len 7)
+      (λ l. head_values_lem (eqb-true h.tag 1 t) (eqb-true h.len 7 l) ∙ sym (simp (t, l)))
+      (λ l. head_length (eqb-false h.len 7 l) ∙ sym (simp (t, l))))
+      (λ t. head_tag_lem (eqb-false h.tag 1 t) ∙ sym (simp t))
 
 -- a head that is good
 pub record HeadHere (file : List ℕ) : Type 0 where
@@ -131,35 +150,82 @@ head_read file x h w =
 -- ---- a field's test, by what the reader says of it
 
 module _ (file : List ℕ) (at : ℕ) (h : Header) (w : Whole file at h) where
-  first_here : (p : Field → Bool) → first_is p (listed (fields_at file at)) ≡ p (field_at file at)
-  first_here p = first_of p _ _ _ (whole_listed file at h w)
+  tag_there : (field_at file at).tag ≡ h.tag
+  tag_there = field_tag file at ∙ sym w.tag
 
-  tagged : (field_at file at).tag ≡ h.tag
-  tagged = field_tag file at ∙ sym w.tag
+  pub tagged_is : (tag : ℕ) → tagged tag (listed (fields_at file at)) ≡ then_some (eqb h.tag tag) h.len
+  unfolding tagged
+  tagged_is tag = rw (whole_listed file at h w, tag_there, whole_length file at h w)
 
-  pub state_tag_lem : (h.tag ≡ 2 → ⊥) → first_is is_state (listed (fields_at file at)) ≡ false
-  unfolding is_state
-  state_tag_lem d = first_here is_state ∙ simp (tagged, ne_eqb h.tag 2 d)
+pub tagged_none : (tag : ℕ) (file : List ℕ) (at : ℕ) → listed (fields_at file at) ≡ [] → tagged tag (listed (fields_at file at)) ≡ None
+unfolding tagged
+tagged_none tag file at none = rw none
 
-  pub state_is : h.tag ≡ 2 → first_is is_state (listed (fields_at file at)) ≡ eqb h.len state_size
-  unfolding is_state
-  state_is e = first_here is_state ∙ simp (tagged, eq-eqb h.tag 2 e, whole_length file at h w)
+-- ---- a field's test, by its tag and length
 
-  pub motion_tag_lem : (h.tag ≡ 3 → ⊥) → first_is is_motion (listed (fields_at file at)) ≡ false
-  unfolding is_motion
-  motion_tag_lem d = first_here is_motion ∙ simp (tagged, ne_eqb h.tag 3 d)
+some_is : (b : Bool) (n m : ℕ) → option_eq eqb (then_some b n) (Some m) ≡ (b && eqb n m)
+some_is true n m = refl
+some_is false n m = refl
 
-  pub motion_is : h.tag ≡ 3 → first_is is_motion (listed (fields_at file at)) ≡ motion_length h.len
-  unfolding is_motion motion_length
-  motion_is e = first_here is_motion ∙ simp (tagged, eq-eqb h.tag 3 e, whole_length file at h w)
+-- where the tag is found, the value is there
+pub tagged_inside : (tag : ℕ) (file : List ℕ) (at m : ℕ) → option_eq eqb (tagged tag (listed (fields_at file at))) (Some m) ≡ true → at + 3 + m ≤ length file
+unfolding listed
+tagged_inside tag file at m e =
+    by_place file at
+    (λ p i. absurd (true≢false (sym e ∙ none (listed_end file at p))))
+    (λ p i. absurd (true≢false (sym e ∙ none (ap listed p))))
+    here
+  where
+    none : listed (fields_at file at) ≡ [] → option_eq eqb (tagged tag (listed (fields_at file at))) (Some m) ≡ false
+    none q = rw (tagged_none tag file at q)
 
-  pub centre_tag_lem : (h.tag ≡ 4 → ⊥) → first_is is_centre (listed (fields_at file at)) ≡ false
-  unfolding is_centre
-  centre_tag_lem d = first_here is_centre ∙ simp (tagged, ne_eqb h.tag 4 d)
+    here : at + 3 + u16_at file (at + 1) ≤ length file → at + 3 + m ≤ length file
+    here r =
+        let (h, w) = header_there file at r in
+        let t = rw (tagged_is file at h w tag, some_is (eqb h.tag tag) h.len m) at e in
+        let l = eqb-true h.len m (and_right (eqb h.tag tag) (eqb h.len m) t) in
+        let i = w.inside in
+        let n = w.next in
+        let s = w.start in
+        omega arith
 
-  pub centre_is : h.tag ≡ 4 → first_is is_centre (listed (fields_at file at)) ≡ eqb h.len 4
-  unfolding is_centre
-  centre_is e = first_here is_centre ∙ simp (tagged, eq-eqb h.tag 4 e, whole_length file at h w)
+pub head_tests : (file : List ℕ) → head_good (head_of file) ≡ (option_eq eqb (tagged 1 (listed (fields_at file 0))) (Some 7) && head_values file 3)
+unfolding listed
+head_tests file =
+    by_place file 0
+    (λ p i. none (listed_end file 0 p))
+    (λ p i. none (ap listed p))
+    here
+  where
+    none : listed (fields_at file 0) ≡ [] → head_good (head_of file) ≡ (option_eq eqb (tagged 1 (listed (fields_at file 0))) (Some 7) && head_values file 3)
+    none q = head_none file q ∙ sym (rw (tagged_none 1 file 0 q))
+
+    here : 0 + 3 + u16_at file 1 ≤ length file → head_good (head_of file) ≡ (option_eq eqb (tagged 1 (listed (fields_at file 0))) (Some 7) && head_values file 3)
+    here r =
+        let (h, w) = header_there file 0 r in
+        head_by file h w ∙ sym (rw (tagged_is file 0 h w 1, some_is (eqb h.tag 1) h.len 7, sym w.start))
+
+pub state_tagged : (fs : List Field) → option_eq eqb (tagged 2 fs) (Some state_size) ≡ first_is is_state fs
+unfolding tagged first_is is_state
+state_tagged [] = refl
+state_tagged (f ∷ fs) = decide (eqb f.tag 2) (λ e. simp e) (λ e. simp e)
+
+pub motion_tagged : (fs : List Field) (o : Option ℕ) (r : Bool) → o ≡ tagged 3 fs → MatchOption o (r ≡ false) (λ n. r ≡ motion_length n) → r ≡ first_is is_motion fs
+unfolding tagged first_is is_motion motion_length
+motion_tagged fs o r e m = go fs (subst (λ (k : Option ℕ). MatchOption k (r ≡ false) (λ n. r ≡ motion_length n)) e m)
+  where
+    by : (f : Field) (b : Bool) → eqb f.tag 3 ≡ b → MatchOption (then_some b (length f.value)) (r ≡ false) (λ n. r ≡ motion_length n) → r ≡ is_motion f
+    by f true t k = simp t k
+    by f false t k = simp t k
+
+    go : (fs : List Field) → MatchOption (tagged 3 fs) (r ≡ false) (λ n. r ≡ motion_length n) → r ≡ first_is is_motion fs
+    go [] k = k
+    go (f ∷ fs) k = by f (eqb f.tag 3) refl k
+
+pub centre_tagged : (fs : List Field) → option_eq eqb (tagged 4 fs) (Some 4) ≡ first_is is_centre fs
+unfolding tagged first_is is_centre
+centre_tagged [] = refl
+centre_tagged (f ∷ fs) = decide (eqb f.tag 4) (λ e. simp e) (λ e. simp e)
 
 -- ---- 4: the motions that come first, and the centres
 

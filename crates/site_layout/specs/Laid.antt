@@ -1,6 +1,7 @@
 -- A site file whose fields are laid out well, and the parts of that test.
 -- Assumes nothing.
-use Rattle.std.specs.Prelude.{ℕ, suc, ◌+◌, ◌*◌, ◌≤◌, ◌≡◌, List, [], ◌∷◌, Bool, true, false, cond, ◌&&◌, length, get_or, drop, leb, eqb}
+use Rattle.std.specs.Prelude.{ℕ, suc, ◌+◌, ◌*◌, ◌≤◌, ◌≡◌, List, [], ◌∷◌, Bool, true, false, cond, ◌&&◌, length, get_or, drop, leb, eqb, Option, None}
+use Rattle.std.specs.Bool.{then_some}
 use Rattle.meaning.specs.Limits.{horizon_limit, cell_limit, state_limit, margin_limit, sweep_limit, field_header, head_size, state_size, motion_size, sweep_size, centre_size}
 use Rattle.meaning.specs.Basics.{within, u16_at}
 use Rattle.meaning.specs.Fields.{Field, fields, complete, listed}
@@ -13,6 +14,11 @@ use Rattle.site_layout.specs.declared.Leading.{Leading}
 unfoldable pub first_is : (Field → Bool) → List Field → Bool
 first_is p [] = false
 first_is p (f ∷ fs) = p f
+
+-- how many bytes the value of the first field has, if it has the tag
+unfoldable pub tagged : ℕ → List Field → Option ℕ
+tagged tag [] = None
+tagged tag (f ∷ fs) = then_some (eqb f.tag tag) (length f.value)
 
 -- the head's values in range, where they start at the place at
 unfoldable pub head_values : List ℕ → ℕ → Bool

@@ -1,15 +1,19 @@
 // The states, the motions and the centres of a site file that is laid out well, read by place and by number.
 #![tactic(auto)]
 
+mod motions;
+
 ghost use Rattle.std.specs.Prelude.{◌≡◌, true, ◌<◌, ◌≤◌, length};
 ghost use Rattle.meaning.specs.Fields.{complete};
 ghost use Rattle.meaning.specs.Site.{site_of, state_at, motion_at, centre_at, motion_of, is_motion};
 ghost use Rattle.fields.specs.Places.{fields_at, field_at};
-ghost use Rattle.site_layout.specs.Laid.{state_place, Laid, StateValue};
+ghost use Rattle.site_layout.specs.Laid.{state_place, StateValue};
 ghost use Rattle.site_read.specs.Motions.{MotionIs, Index};
 ghost use Rattle.site_read.specs.Centres.{centre_read};
 
 use fields::FIELD_HEADER;
+pub use motions::Motions;
+use site_layout::SiteFile;
 
 // The bytes of the field of the head, of a state and of a centre.
 const HEAD_FIELD: usize = FIELD_HEADER + site_layout::HEAD_SIZE;
@@ -27,26 +31,26 @@ pub fn state_place(i: usize) -> usize
 }
 
 // Where the value of the state `i` starts.
-fn state_value(file: &[u8], i: usize) -> usize
-    requires { Laid file.now × (i < length (site_of file.now).states) }
-    ensures { StateValue file.now i result }
+fn state_value(file: &SiteFile<'_>, i: usize) -> usize
+    requires { i < length (site_of file.now.bytes.now).states }
+    ensures { StateValue file.now.bytes.now i result }
 {
     state_place(i) + FIELD_HEADER
 }
 
 // The cell and the speed of the state `i`.
-pub fn state_cell(file: &[u8], i: usize) -> usize
-    requires { Laid file.now × (i < length (site_of file.now).states) }
-    ensures { (result ≡ (state_at (site_of file.now) i).cell) × (result < 65536) }
+pub fn state_cell(file: &SiteFile<'_>, i: usize) -> usize
+    requires { i < length (site_of file.now.bytes.now).states }
+    ensures { (result ≡ (state_at (site_of file.now.bytes.now) i).cell) × (result < 65536) }
 {
-    fields::number_at(file, state_value(file, i))
+    fields::number_at(file.bytes, state_value(file, i))
 }
 
-pub fn state_speed(file: &[u8], i: usize) -> u8
-    requires { Laid file.now × (i < length (site_of file.now).states) }
-    ensures { result ≡ (state_at (site_of file.now) i).speed }
+pub fn state_speed(file: &SiteFile<'_>, i: usize) -> u8
+    requires { i < length (site_of file.now.bytes.now).states }
+    ensures { result ≡ (state_at (site_of file.now.bytes.now) i).speed }
 {
-    file[state_value(file, i) + 2]
+    file.bytes[state_value(file, i) + 2]
 }
 
 // A motion: its numbers, and the place and the count of its sweeps.
@@ -65,54 +69,47 @@ pub fn read_motion(file: &[u8], at: usize) -> Motion
     ensures { MotionIs file.now (motion_of (field_at file.now at)) result }
 {
     let h = fields::header_at(file, at);
-    let start = h.start;
-    let len = h.len;
     Motion {
-        from: fields::number_at(file, start),
-        to: fields::number_at(file, start + 2),
-        span: file[start + 4],
-        first: start + site_layout::MOTION_SIZE,
-        count: site_layout::sweep_count(len),
+        from: fields::number_at(file, h.start),
+        to: fields::number_at(file, h.start + 2),
+        span: file[h.start + 4],
+        first: h.start + site_layout::MOTION_SIZE,
+        count: site_layout::sweep_count(h.len),
     }
 }
 
 // The index: where the field of each of the `motions` motions starts, found in one walk from `start`, where they start.
-pub fn fill_index(file: &[u8], start: usize, motions: usize, index: &mut [u16])
-    requires file_len_bound { (length file.now ≤ 65536) × Laid file.now × (start ≡ state_place (length (site_of file.now).states)) × (motions ≡ length (site_of file.now).motions) }
+pub fn fill_index(file: &SiteFile<'_>, start: usize, motions: usize, index: &mut [u16])
+    requires file_len_bound { (length file.now.bytes.now ≤ 65536) × (start ≡ state_place (length (site_of file.now.bytes.now).states)) × (motions ≡ length (site_of file.now.bytes.now).motions) }
     requires motions_in_bounds { motions ≤ length index.old }
-    ensures index { Index file.now index.new }
+    ensures index { Index file.now.bytes.now index.new }
     ensures index_len_unchanged { length index.new ≡ length index.old }
 {
     let mut at = start;
-    let mut number = 0;
-    while number < motions {
-        index[number] = at as u16;
-        at = fields::next_field(file, at);
-        number += 1;
+    for entry in index[..motions].iter_mut() {
+        *entry = at as u16;
+        at = fields::next_field(file.bytes, at);
     }
 }
 
-// The motion of the number `k`, by the index.
-pub fn motion_at(file: &[u8], index: &[u16], k: usize) -> Motion
-    requires { Laid file.now × Index file.now index.now × (k < length (site_of file.now).motions) }
-    ensures { MotionIs file.now (motion_at (site_of file.now) k) result }
+// The motion of the number `k`.
+pub fn motion_at(motions: &Motions<'_>, k: usize) -> Motion
+    requires { k < length (site_of motions.now.file.bytes.now).motions }
+    ensures { MotionIs motions.now.file.bytes.now (motion_at (site_of motions.now.file.bytes.now) k) result }
 {
-    let at = index[k] as usize;
-    read_motion(file, at)
+    read_motion(motions.file.bytes, motions.starts[k] as usize)
 }
 
 // The motion of the number `k` without an index: found by a walk from `start`, where the motions start.
-pub fn find_motion(file: &[u8], start: usize, k: usize) -> Motion
-    requires { Laid file.now × (start ≡ state_place (length (site_of file.now).states)) × (k < length (site_of file.now).motions) }
-    ensures { MotionIs file.now (motion_at (site_of file.now) k) result }
+pub fn find_motion(file: &SiteFile<'_>, start: usize, k: usize) -> Motion
+    requires { (start ≡ state_place (length (site_of file.now.bytes.now).states)) × (k < length (site_of file.now.bytes.now).motions) }
+    ensures { MotionIs file.now.bytes.now (motion_at (site_of file.now.bytes.now) k) result }
 {
     let mut at = start;
-    let mut n = 0;
-    while n < k {
-        at = fields::next_field(file, at);
-        n += 1;
+    for _ in 0..k {
+        at = fields::next_field(file.bytes, at);
     }
-    read_motion(file, at)
+    read_motion(file.bytes, at)
 }
 
 // A cell's centre, in millimetres.
@@ -123,14 +120,13 @@ pub struct Centre {
 }
 
 // The centre of the cell, in a file with `centres` of them: they end the file, each in as many bytes.
-pub fn read_centre(file: &[u8], centres: usize, cell: usize) -> Centre
-    requires { Laid file.now × (centres ≡ length (site_of file.now).centres) × (cell < centres) }
-    ensures { result ≡ centre_read (centre_at (site_of file.now) cell) }
+pub fn read_centre(file: &SiteFile<'_>, centres: usize, cell: usize) -> Centre
+    requires { (centres ≡ length (site_of file.now.bytes.now).centres) × (cell < centres) }
+    ensures { result ≡ centre_read (centre_at (site_of file.now.bytes.now) cell) }
 {
-    let later = centres - cell;
-    let at = file.len() - CENTRE_FIELD * later;
+    let at = file.bytes.len() - CENTRE_FIELD * (centres - cell);
     Centre {
-        x: fields::u16_at(file, at + FIELD_HEADER),
-        y: fields::u16_at(file, at + FIELD_HEADER + 2),
+        x: fields::u16_at(file.bytes, at + FIELD_HEADER),
+        y: fields::u16_at(file.bytes, at + FIELD_HEADER + 2),
     }
 }

@@ -1,17 +1,18 @@
 -- Laws of the sweeps by place, and of the tests on them.
 -- Assumes nothing.
-use Prim.Native.Nat.{ℕ, zero, suc, ◌+◌, ◌*◌, ◌-◌, ◌≤◌, ◌<◌}
+use Prim.Native.Nat.{ℕ, zero, suc, ◌+◌, ◌*◌, ◌-◌, ◌/◌, ◌≤◌, ◌<◌}
 use mathlib.Core.Path.{◌≡◌, refl, sym, ap, ap₂, ◌∙◌}
 use mathlib.Core.List.{List, [], ◌∷◌}
 use mathlib.Core.Bool.{Bool, true, false}
 use native.Mathlib.Omega.{arith}
 use lib.ListN.{length, get_or, take, drop, length-drop}
-use lib.Seq.{drop-drop, get_or-drop}
+use lib.Seq.{drop-drop, get_or-drop, length-take-le}
+use Rattle.std.specs.List.{list_any, list_all}
+use Rattle.std.specs.Simd.{first_chunks}
 use Rattle.meaning.specs.Limits.{sweep_size}
 use Rattle.meaning.specs.Basics.{any, all, u16_at}
 use Rattle.meaning.specs.Site.{Sweep, sweeps_of}
-use Rattle.meaning.proofs.BasicsLaws.{decide}
-use Rattle.site_sweeps.specs.Places.{sweep_at, sweeps_at, sweep_of, SweepIs}
+use Rattle.site_sweeps.specs.Places.{sweep_at, sweeps_at, sweeps_in, sweep_of, SweepIs}
 use Rattle.site_sweeps.specs.declared.Sweep as ReadSweep
 
 -- the first of n sweeps, on a list
@@ -78,27 +79,52 @@ module _ (file : List ℕ) (at n i : ℕ) where
       let left : n - i - 1 ≡ n - (i + 1) = omega arith in
       sweeps_next file (at + sweep_size * i) (n - i) (omega arith) (omega arith) ∙ ap₂ (λ (x y : ℕ). sweep_at file (at + sweep_size * i) ∷ sweeps_at file x y) place left
 
+-- ---- the sweeps whose bytes are given one by one
+
+-- those of a slice that has no bytes beside them
+pub in_chunks : (n : ℕ) (s : List ℕ) → length s ≡ sweep_size * n → sweeps_in (first_chunks sweep_size n s) ≡ sweeps_of s
+unfolding sweeps_of
+in_chunks zero [] e = refl
+in_chunks zero (c ∷ s) e = absurd (omega arith)
+in_chunks (suc n) [] e = absurd (omega arith)
+in_chunks (suc n) (c ∷ []) e = absurd (omega arith)
+in_chunks (suc n) (c ∷ d ∷ []) e = absurd (omega arith)
+in_chunks (suc n) (c ∷ d ∷ a ∷ []) e = absurd (omega arith)
+in_chunks (suc n) (c ∷ d ∷ a ∷ b ∷ s) e = ap (λ (ws : List Sweep). record { cell = c * 256 + d; first = a; last = b } ∷ ws) (in_chunks n s (omega arith))
+
+pub slice_sweeps : (file : List ℕ) (at n : ℕ) → at + sweep_size * n ≤ length file
+    → (let s = take (at + sweep_size * n - at) (drop at file) in sweeps_in (first_chunks sweep_size (length s / sweep_size) s)) ≡ sweeps_at file at n
+unfolding sweeps_at
+slice_sweeps file at n p =
+    let d = length-drop at file in
+    let size : at + sweep_size * n - at ≡ sweep_size * n = omega arith in
+    let long = length-take-le (sweep_size * n) (drop at file) (omega arith) in
+    let count : length (take (sweep_size * n) (drop at file)) / sweep_size ≡ n = omega arith in
+    rw (size, count) (in_chunks n _ long)
+
+module _ (p : Sweep → Bool) where
+  pub any_in : (bs : List (List ℕ)) → list_any (λ b. p (sweep_at b 0)) bs ≡ any p (sweeps_in bs)
+  unfolding any
+  any_in [] = refl
+  any_in (b ∷ bs) = rw (any_in bs)
+
+  pub all_in : (bs : List (List ℕ)) → list_all (λ b. p (sweep_at b 0)) bs ≡ all p (sweeps_in bs)
+  unfolding all
+  all_in [] = refl
+  all_in (b ∷ bs) = rw (all_in bs)
+
 -- what a test says of the sweep that was read, it says of the one in the file
+pub read_same : (p : Sweep → Bool) {w : Sweep} {r : ReadSweep.Sweep} {b : Bool} → SweepIs w r → b ≡ p (sweep_of r) → b ≡ p w
+read_same p s e = e ∙ ap p s.same
+
 pub read_test : (p : Sweep → Bool) {w : Sweep} {r : ReadSweep.Sweep} {b c : Bool} → SweepIs w r → b ≡ p (sweep_of r) → b ≡ c → p w ≡ c
 read_test p s e t = ap p (sym s.same) ∙ sym e ∙ t
 
--- a test of some or of all of them
+-- a test of all of them
 module _ (p : Sweep → Bool) (file : List ℕ) (at n i : ℕ) where
-  pub any_none : n ≤ i → any p (rest_at file at n i) ≡ false
-  unfolding any
-  any_none h = rw (rest_none file at n i h)
-
   pub all_none : n ≤ i → all p (rest_at file at n i) ≡ true
   unfolding all
   all_none h = rw (rest_none file at n i h)
-
-  pub any_hit : i < n → at + sweep_size * n ≤ length file → p (sweep_at file (at + sweep_size * i)) ≡ true → any p (rest_at file at n i) ≡ true
-  unfolding any
-  any_hit h q e = rw (rest_next file at n i h q, e)
-
-  pub any_miss : i < n → at + sweep_size * n ≤ length file → p (sweep_at file (at + sweep_size * i)) ≡ false → any p (rest_at file at n i) ≡ any p (rest_at file at n (i + 1))
-  unfolding any
-  any_miss h q e = rw (rest_next file at n i h q, e)
 
   pub all_hit : i < n → at + sweep_size * n ≤ length file → p (sweep_at file (at + sweep_size * i)) ≡ true → all p (rest_at file at n i) ≡ all p (rest_at file at n (i + 1))
   unfolding all
@@ -107,7 +133,3 @@ module _ (p : Sweep → Bool) (file : List ℕ) (at n i : ℕ) where
   pub all_miss : i < n → at + sweep_size * n ≤ length file → p (sweep_at file (at + sweep_size * i)) ≡ false → all p (rest_at file at n i) ≡ false
   unfolding all
   all_miss h q e = rw (rest_next file at n i h q, e)
-
-  -- what a later sweep meets, one of these does
-  pub any_later : i < n → at + sweep_size * n ≤ length file → any p (rest_at file at n (i + 1)) ≡ true → any p (rest_at file at n i) ≡ true
-  any_later h q e = decide (p (sweep_at file (at + sweep_size * i))) (λ k. any_hit h q k) (λ k. any_miss h q k ∙ e)

@@ -1,6 +1,6 @@
 -- Sweeps by their place in a site file.
 -- Assumes nothing.
-use Rattle.std.specs.Prelude.{ℕ, ◌+◌, ◌*◌, ◌<◌, ◌≡◌, List, take, drop, get_or}
+use Rattle.std.specs.Prelude.{ℕ, ◌+◌, ◌*◌, ◌<◌, ◌≡◌, List, take, drop, get_or, map}
 use Rattle.meaning.specs.Limits.{sweep_size}
 use Rattle.meaning.specs.Basics.{u16_at}
 use Rattle.meaning.specs.Site.{Sweep, sweeps_of}
@@ -13,6 +13,10 @@ sweep_at file at = record { cell = u16_at file at; first = get_or file (at + 2) 
 -- n sweeps from the place at on
 unfoldable pub sweeps_at : List ℕ → ℕ → ℕ → List Sweep
 sweeps_at file at n = sweeps_of (take (sweep_size * n) (drop at file))
+
+-- the sweeps whose bytes are given one by one
+abbrev pub sweeps_in : List (List ℕ) → List Sweep
+sweeps_in bs = map (λ b. sweep_at b 0) bs
 
 -- the sweep that was read
 abbrev pub sweep_of : ReadSweep.Sweep → Sweep

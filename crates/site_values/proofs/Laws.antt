@@ -1,7 +1,7 @@
 -- Laws of the tests of states and motions.
 -- Assumes nothing.
 use Prim.Native.Nat.{ℕ, zero, suc, ◌+◌, ◌≤◌, ◌<◌}
-use mathlib.Core.Path.{◌≡◌, refl}
+use mathlib.Core.Path.{◌≡◌, refl, sym}
 use mathlib.Core.List.{List, [], ◌∷◌}
 use mathlib.Core.Bool.{Bool, true, false, ◌&&◌, not}
 use native.Mathlib.Omega.{arith}
@@ -10,6 +10,7 @@ use lib.ListN.{length, get_or, drop}
 use lib.Seq.{drop-cons}
 use lib.Dec.{leb, ltb, eqb}
 use borrow.Author.Tests.{ltb-true}
+use Rattle.std.specs.List.{list_all, range_with_len}
 use Rattle.meaning.specs.Basics.{all}
 use Rattle.meaning.specs.Site.{Motion, Site, cell_of, ends_good, sweeps_good, motion_good}
 use Rattle.meaning.proofs.MotionLaws.{and_four}
@@ -34,6 +35,12 @@ module _ {A : Type 0} (p : A → Bool) (d : A) where
   pub rest_miss : (xs : List A) (i : ℕ) → i < length xs → p (get_or xs i d) ≡ false → all p (drop i xs) ≡ false
   unfolding all
   rest_miss xs i h e = rw (drop-cons xs i d h, e)
+
+  -- a test of every number, of what stands at it
+  pub range_rest : (xs : List A) (i n : ℕ) → i + n ≡ length xs → list_all (λ (k : ℕ). p (get_or xs k d)) (range_with_len i n) ≡ all p (drop i xs)
+  unfolding all
+  range_rest xs i zero h = sym (rest_none xs i (omega arith))
+  range_rest xs i (suc n) h = rw (drop-cons xs i d (omega arith), range_rest xs (i + 1) n (omega arith), add-one i)
 
 -- ---- a motion
 

@@ -2,7 +2,7 @@
 -- Assumes nothing.
 use mathlib.Core.Path.{sym, ap, ◌∙◌}
 use Rattle.meaning.specs.Fields.{complete}
-use Rattle.fields.proofs.Laws.{whole_at, complete_end, is_end, is_cut, is_field, whole_complete, cut_incomplete}
+use Rattle.fields.proofs.Laws.{whole_at, complete_end, is_field, whole_complete, not_field_cut}
 use borrow.Author.Rules.{rules}
 use native.Mathlib.Omega.{arith}
 use Rattle.fields.proofs.fields_complete.Goals as goal
@@ -26,17 +26,11 @@ loop-at-preserved c =
     let w = is_field f l.at _ (sym c.in-Field.is ∙ c.read_item.ensures) in
     (w.inside, sym (whole_complete f _ _ w) ∙ l.invariant.1)
 
-pub returns-in-Cut : goal.returns-in-Cut
-returns-in-Cut c =
+pub returns-in_default : goal.returns-in_default
+returns-in_default c =
     let l = c.loop-at in
-    let e = is_cut c.args.s.now l.at (sym c.in-Cut.is ∙ c.read_item.ensures) in
-    sym (cut_incomplete c.args.s.now l.at e) ∙ l.invariant.1
-
-pub returns-in-End : goal.returns-in-End
-returns-in-End c =
-    let l = c.loop-at in
-    let e = is_end c.args.s.now l.at (sym c.in-End.is ∙ c.read_item.ensures) in
-    sym (complete_end c.args.s.now l.at e) ∙ l.invariant.1
+    let item = c.read_item in
+    sym (not_field_cut c.args.s.now l.at item.result c.in_default.not-Field item.ensures c.loop-at-test.true) ∙ l.invariant.1
 
 pub returns : goal.returns
 returns c =

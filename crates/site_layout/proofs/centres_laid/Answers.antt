@@ -20,15 +20,15 @@ loop-at-preserved c =
     let l = c.loop-at in
     let x = c.next_field-at.ensures in
     let size = ap length x.list in
-    let t = sym (first_of is_centre _ _ _ x.list) ∙ sym c.is_centre.ensures ∙ c.if-is_centre.true in
+    let t = sym (first_of is_centre _ _ _ x.list) ∙ sym c.is_centre.ensures ∙ c.if-not-is_centre.false in
     (x.inside, omega arith, x.whole, omega arith, sym (fields_all_hit is_centre _ _ _ x.list t) ∙ l.invariant.4)
 
-pub returns-else-is_centre : goal.returns-else-is_centre
+pub returns-then-not-is_centre : goal.returns-then-not-is_centre
 unfolding centres_laid
-returns-else-is_centre c =
+returns-then-not-is_centre c =
     let l = c.loop-at in
     let x = next_is c.args.file.now l.at _ _ l.invariant.2 (omega arith) refl refl in
-    let t = sym (first_of is_centre _ _ _ x.list) ∙ sym c.is_centre.ensures ∙ c.if-is_centre.false in
+    let t = sym (first_of is_centre _ _ _ x.list) ∙ sym c.is_centre.ensures ∙ c.if-not-is_centre.true in
     simp (sym l.invariant.4 ∙ fields_all_miss is_centre _ _ _ x.list t)
 
 -- behind the last field
@@ -45,11 +45,12 @@ unfolding centres_laid
 returns-then-n-cells c =
     let l = c.loop-at in
     let file = c.args.file.now in
-    simp (all_there file c.args.start l.n l.at (omega arith) l.invariant.4, size_there file c.args.start l.n l.at (omega arith) l.invariant.3, eq-eqb l.n c.args.cells c.if-n-cells.true)
+    let e = eq-eqb l.n c.args.cells c.if-n-cells.true in
+    simp (all_there file c.args.start l.n l.at (omega arith) l.invariant.4, size_there file c.args.start l.n l.at (omega arith) l.invariant.3, e)
 
-pub returns : goal.returns
+pub returns-else-n-cells : goal.returns-else-n-cells
 unfolding centres_laid
-returns c =
+returns-else-n-cells c =
     let l = c.loop-at in
     let file = c.args.file.now in
     simp (all_there file c.args.start l.n l.at (omega arith) l.invariant.4, size_there file c.args.start l.n l.at (omega arith) l.invariant.3, ne_eqb l.n c.args.cells c.if-n-cells.false)

@@ -1,24 +1,7 @@
 -- `site_layout::is_motion` meets its contract.
 -- Assumes nothing.
-use mathlib.Core.Path.{sym, ◌∙◌}
-use Rattle.meaning.specs.Site.{is_motion}
-use Rattle.site_layout.proofs.Laws.{first_none, motion_tag_lem, motion_is}
-use Rattle.fields.proofs.Laws.{not_field, is_field}
+use Rattle.site_layout.proofs.Laws.{motion_tagged}
 use Rattle.site_layout.proofs.is_motion.Goals as goal
 
-pub returns-then-h-ne-MOTION_TAG : goal.returns-then-h-ne-MOTION_TAG
-returns-then-h-ne-MOTION_TAG c =
-    let f = c.args.file.now in
-    let w = is_field f c.args.at _ (sym c.in-Field.is ∙ c.read_item.ensures) in
-    sym (motion_tag_lem f c.args.at _ w c.if-h-ne-MOTION_TAG.true)
-
-pub returns-else-h-ne-MOTION_TAG : goal.returns-else-h-ne-MOTION_TAG
-returns-else-h-ne-MOTION_TAG c =
-    let f = c.args.file.now in
-    let w = is_field f c.args.at _ (sym c.in-Field.is ∙ c.read_item.ensures) in
-    c.motion_length.ensures ∙ sym (motion_is f c.args.at _ w c.if-h-ne-MOTION_TAG.false)
-
-pub returns-in_default : goal.returns-in_default
-returns-in_default c =
-    let item = c.read_item in
-    sym (first_none is_motion c.args.file.now c.args.at (not_field _ _ item.result c.in_default.not-Field item.ensures))
+pub returns : goal.returns
+returns c = motion_tagged _ _ _ c.tagged.ensures c.is_some_and.ensures

@@ -1,11 +1,7 @@
--- `site_read::find_motion` meets its contract. The invariant: n motions lie before the place, and n is at most k.
+-- `site_read::find_motion` meets its contract. The invariant: as many motions lie before the place as were left behind.
 -- Assumes nothing.
-use Prim.Native.Nat.{◌-◌, ◌≤◌}
 use Rattle.site_read.proofs.Laws.{Reached}
 use Rattle.site_read.proofs.find_motion.Given as goal
 
-abbrev pub invariant-loop-n : goal.invariant-loop-n
-invariant-loop-n l = (l.n ≤ l.k) × Reached l.file l.at l.n
-
-abbrev pub decreases-loop-n : goal.decreases-loop-n
-decreases-loop-n l = l.k - l.n
+abbrev pub invariant-loop : goal.invariant-loop
+invariant-loop l = Reached l.file.bytes.now l.at l.counter

@@ -20,8 +20,8 @@ number_at-requires-2 c =
     let i = x.inside in
     omega arith
 
-pub bounds-file-start : goal.bounds-file-start
-bounds-file-start c =
+pub bounds-file-h : goal.bounds-file-h
+bounds-file-h c =
     let f = c.args.file.now in
     let x = motion_read f c.args.at _ c.header_at-h.ensures.0 c.requires.2 in
     let i = x.inside in

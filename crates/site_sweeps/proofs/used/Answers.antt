@@ -1,28 +1,17 @@
--- `site_sweeps::used` meets its contract. The invariant: the sweeps from i on answer as all do.
+-- `site_sweeps::used` meets its contract.
 -- Assumes nothing.
-use mathlib.Core.Path.{sym, ◌∙◌}
+use mathlib.Core.Path.{◌∙◌}
+use Rattle.std.proofs.lemmas.Iterator.{YieldsList-from_slice}
+use Rattle.std.proofs.lemmas.Iterator.Search.{any_from_yields_List}
 use Rattle.meaning.specs.Site.{covers, uses}
-use Rattle.site_sweeps.proofs.Laws.{read_test, any_none, any_hit, any_miss}
-use native.Mathlib.Omega.{arith}
+use Rattle.site_sweeps.specs.Places.{sweep_at}
+use Rattle.site_sweeps.proofs.Laws.{any_in, read_same}
+use borrow.Author.Rules.{rules}
 use Rattle.site_sweeps.proofs.used.Goals as goal
-
-pub returns-then-covers : goal.returns-then-covers
-unfolding uses
-returns-then-covers c =
-    let l = c.loop-i in
-    let p = covers c.args.cell c.args.t in
-    let e = read_test p c.read_sweep.ensures c.covers.ensures c.if-covers.true in
-    sym (any_hit p c.args.file.now c.args.at c.args.count l.i (omega arith) (omega arith) e) ∙ l.invariant
-
-pub loop-i-preserved : goal.loop-i-preserved
-loop-i-preserved c =
-    let l = c.loop-i in
-    let p = covers c.args.cell c.args.t in
-    let e = read_test p c.read_sweep.ensures c.covers.ensures c.if-covers.false in
-    sym (any_miss p c.args.file.now c.args.at c.args.count l.i (omega arith) (omega arith) e) ∙ l.invariant
 
 pub returns : goal.returns
 unfolding uses
 returns c =
-    let l = c.loop-i in
-    sym (any_none (covers c.args.cell c.args.t) c.args.file.now c.args.at c.args.count l.i (omega arith)) ∙ l.invariant
+    let p = covers c.args.cell c.args.t in
+    any_from_yields_List (λ b. p (sweep_at b 0)) _ _ _ c.any.ensures.ran (YieldsList-from_slice c.args.sweeps.now cc) (λ x b q k. (search rules, search (rules, read_same p)))
+    ∙ any_in p c.args.sweeps.now

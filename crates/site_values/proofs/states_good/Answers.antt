@@ -1,33 +1,19 @@
 -- `site_values::states_good` meets its contract.
 -- Assumes nothing.
 use Prim.Native.Nat.{ℕ}
-use mathlib.Core.Path.{sym, ap, ◌∙◌}
-use lib.Dec.{ltb}
-use borrow.Author.Tests.{lt-ltb, le-ltb}
-use Rattle.meaning.specs.Site.{no_state, site_of, cell_good}
-use Rattle.site_values.proofs.Laws.{rest_none, rest_hit, rest_miss}
+use mathlib.Core.Path.{refl, ◌∙◌}
 use borrow.Author.Rules.{rules}
 use native.Mathlib.Omega.{arith}
+use borrow.Author.Tests.{tests}
+use Rattle.std.proofs.lemmas.Iterator.{YieldsList-from_range}
+use Rattle.std.proofs.lemmas.Iterator.Search.{all_from_yields_List}
+use Rattle.meaning.specs.Site.{no_state, site_of, state_at, cell_good}
+use Rattle.site_values.proofs.Laws.{range_rest}
 use Rattle.site_values.proofs.states_good.Goals as goal
-
-pub loop-i-preserved : goal.loop-i-preserved
-loop-i-preserved c =
-    let p = c.requires.1 in
-    let l = c.loop-i in
-    let xs = (site_of c.args.file.now).states in
-    let e = ap (λ (k : ℕ). ltb k c.args.cells) (sym c.state_cell.ensures.0) ∙ lt-ltb _ _ c.if-state_cell-cells.true in
-    (search rules, sym (rest_hit (cell_good c.args.cells) no_state xs l.i (omega arith) e) ∙ l.invariant.1)
-
-pub returns-else-state_cell-cells : goal.returns-else-state_cell-cells
-returns-else-state_cell-cells c =
-    let p = c.requires.1 in
-    let l = c.loop-i in
-    let xs = (site_of c.args.file.now).states in
-    let e = ap (λ (k : ℕ). ltb k c.args.cells) (sym c.state_cell.ensures.0) ∙ le-ltb _ _ c.if-state_cell-cells.false in
-    sym (rest_miss (cell_good c.args.cells) no_state xs l.i (omega arith) e) ∙ l.invariant.1
 
 pub returns : goal.returns
 returns c =
-    let p = c.requires.1 in
-    let l = c.loop-i in
-    sym (rest_none (cell_good c.args.cells) no_state (site_of c.args.file.now).states l.i (omega arith)) ∙ l.invariant.1
+    let site = site_of c.args.file.now.bytes.now in
+    let good = cell_good c.args.cells in
+    all_from_yields_List (λ (i : ℕ). good (state_at site i)) _ _ _ c.all.ensures.ran (YieldsList-from_range 0 c.args.count c.args.count refl (omega arith)) (λ x b q k. (search rules, search (rules, tests)))
+    ∙ range_rest good no_state site.states 0 c.args.count (omega (arith, c.requires))
