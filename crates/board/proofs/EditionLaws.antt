@@ -1,22 +1,23 @@
 -- The edition: its four bytes written, and the next one, read before or after a change.
 -- Assumes nothing.
-use Prim.Native.Nat.{ℕ, ◌+◌, ◌≤◌}
+use Prim.Native.Nat.{ℕ, ◌+◌, ◌/◌, ◌%◌, ◌≤◌}
 use native.Mathlib.Omega.{arith}
-use mathlib.Core.Path.{◌≡◌, ap, ◌∙◌}
+use mathlib.Core.Path.{◌≡◌, sym, ap, ◌∙◌}
+use native.Mathlib.Nat.{div-div-eq-div-mul}
 use mathlib.Core.Bool.{cond}
-use mathlib.Core.List.{List, [], ◌∷◌, ◌++◌, map}
+use mathlib.Core.List.{List, ◌∷◌, map}
 use lib.Dec.{eqb}
-use lib.ListN.{length, take, drop, set, get_or-append}
-use lib.Seq.{sets-eq, length-take-le, get_or-take}
+use lib.ListN.{length, take, drop, get_or-append}
+use lib.Seq.{length-take-le, get_or-take}
 use Rattle.meaning.specs.Limits.{header}
 use Rattle.meaning.specs.Site.{Site}
 use Rattle.meaning.specs.Board.{mark, Pair, edition, clear, with_edition, next_edition}
 use Rattle.meaning.proofs.BoardLaws.{same_edition, edition_mark}
 
--- ---- four stores at the front
+-- ---- the four bytes
 
-pub front : (l : List ℕ) (a b c d : ℕ) → 4 ≤ length l → set (set (set (set l 0 a) 1 b) 2 c) 3 d ≡ (a ∷ b ∷ c ∷ d ∷ []) ++ drop 4 l
-front l a b c d h = sets-eq (a ∷ b ∷ c ∷ d ∷ []) l 0 h
+pub high_byte : (n : ℕ) (rest : List ℕ) → (n / 16777216 % 256 ∷ rest) ≡ (n / 65536 / 256 % 256 ∷ rest)
+high_byte n rest = ap (λ (u : ℕ). u % 256 ∷ rest) (sym (div-div-eq-div-mul n 65536 256))
 
 -- ---- the next edition, read before or after a change
 

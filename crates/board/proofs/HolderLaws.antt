@@ -1,19 +1,30 @@
 -- Who stands on the board, and the board after a holder is withdrawn, from a place on.
 -- Assumes nothing.
-use Prim.Native.Nat.{ℕ, suc, ◌+◌, ◌<◌, ◌≤◌}
+use Prim.Native.Nat.{ℕ, ◌+◌, ◌-◌, ◌<◌, ◌≤◌}
 use native.Mathlib.Omega.{arith}
 use mathlib.Core.Path.{◌≡◌, refl, sym, ap, ap₂, ◌∙◌}
 use mathlib.Core.Bool.{Bool, true, false, cond, ◌&&◌, ◌||◌, and-true, and-false, and-or_distrib_left}
 use mathlib.Core.List.{List, [], ◌∷◌, ◌++◌, map, append-nil}
 use borrow.Author.Tests.{eqb-true}
 use lib.Dec.{eqb}
-use lib.ListN.{length, take, drop, get_or, set, drop_of_length-le}
-use lib.Seq.{drop-cons, append_snoc, take_all, take-suc-set, drop-set-lt}
+use lib.ListN.{length, take, drop, get_or, length-drop, drop_of_length-le}
+use lib.Seq.{drop-cons, take_all}
 use native.Mathlib.Numerals.{add-one}
 use Rattle.meaning.specs.Limits.{header}
 use Rattle.meaning.specs.Basics.{every, any}
-use Rattle.meaning.specs.Board.{is_holder, stands}
+use Rattle.meaning.specs.Board.{is_holder, stands, clear}
 use Rattle.meaning.proofs.BasicsLaws.{decide}
+
+-- ---- the bytes behind the edition
+
+abbrev pub cell_bytes : List ℕ → List ℕ
+cell_bytes board = take (length board - header) (drop header board)
+
+all_behind : (board : List ℕ) → length (drop header board) ≤ length board - header
+all_behind board = omega (arith, length-drop header board)
+
+pub behind : (board : List ℕ) → cell_bytes board ≡ drop header board
+behind board = take_all (length board - header) (drop header board) (all_behind board)
 
 -- ---- a search from a place on
 
@@ -50,13 +61,13 @@ withdrawn h b = cond (eqb b h) 0 b
 abbrev pub clear_from : ℕ → ℕ → List ℕ → List ℕ
 clear_from h i l = take i l ++ map (λ (b : ℕ). cond (eqb b h) 0 b) (drop i l)
 
-pub clear_next : (h i v : ℕ) (l : List ℕ) → i < length l → v ≡ withdrawn h (get_or l i 0) → clear_from h i l ≡ clear_from h (i + 1) (set l i v)
-clear_next h i v l lt e =
-    ap (λ (r : List ℕ). take i l ++ map (withdrawn h) r) (drop-cons l i 0 lt)
-    ∙ ap (λ (x : ℕ). take i l ++ x ∷ map (withdrawn h) (drop (suc i) l)) (sym e)
-    ∙ sym (append_snoc (take i l) v (map (withdrawn h) (drop (suc i) l)))
-    ∙ ap₂ (λ (x y : List ℕ). x ++ map (withdrawn h) y) (sym (take-suc-set l i v lt)) (sym (drop-set-lt (suc i) l i v (omega arith)))
-    ∙ ap (λ (j : ℕ). clear_from h j (set l i v)) (sym (add-one i))
-
 pub clear_end : (h i : ℕ) (l : List ℕ) → length l ≤ i → clear_from h i l ≡ l
 clear_end h i l le = ap₂ (λ (x y : List ℕ). x ++ map (withdrawn h) y) (take_all i l le) (drop_of_length-le l {i = i} le) ∙ append-nil l
+
+-- and the board once those behind the edition are
+pub cleared : (h : ℕ) (board bytes : List ℕ) → bytes ≡ clear_from h 0 (cell_bytes board)
+    → take header board ++ (bytes ++ drop (length board - header) (drop header board)) ≡ clear h board
+unfolding clear
+cleared h board bytes e =
+    ap (λ (x : List ℕ). take header board ++ (bytes ++ x)) (drop_of_length-le (drop header board) {i = length board - header} (all_behind board))
+    ∙ ap (λ (x : List ℕ). take header board ++ x) (append-nil bytes ∙ e ∙ ap (map (withdrawn h)) (behind board))

@@ -9,7 +9,7 @@ ghost use Rattle.meaning.specs.Board.{is_holder, edition, with_edition, next_edi
 pub const HEADER: usize = 4;
 
 // The edition after which no call changes the board.
-pub const LAST_EDITION: u32 = 4294967295;
+pub const LAST_EDITION: u32 = u32::MAX;
 
 // Does the byte carry the holder's number? A byte that sorts as free or unknown carries none.
 fn carries(b: u8, h: u8) -> bool
@@ -20,28 +20,18 @@ fn carries(b: u8, h: u8) -> bool
 
 // ---- the edition: four bytes, high byte first
 
-fn as_u32(b: u8) -> u32
-    ensures { (result ≡ b) × (result < 256) }
-{
-    b as u32
-}
-
 pub fn read_edition(board: &[u8]) -> u32
     requires { header ≤ length board.now }
     ensures { result ≡ edition board.now }
 {
-    (as_u32(board[0]) * 256 + as_u32(board[1])) * 65536
-        + (as_u32(board[2]) * 256 + as_u32(board[3]))
+    u32::from_be_bytes([board[0], board[1], board[2], board[3]])
 }
 
 fn write_edition(board: &mut [u8], n: u32)
     requires { header ≤ length board.old }
     ensures { board.new ≡ with_edition n board.old }
 {
-    board[0] = (n / 65536 / 256 % 256) as u8;
-    board[1] = (n / 65536 % 256) as u8;
-    board[2] = (n / 256 % 256) as u8;
-    board[3] = (n % 256) as u8;
+    board[..HEADER].copy_from_slice(&n.to_be_bytes());
 }
 
 // Adds 1 to the edition.
@@ -67,35 +57,26 @@ pub fn length_of(cells: usize, horizon: usize) -> usize
 pub fn set_free(board: &mut [u8])
     ensures { board.new ≡ replicate (length board.old) 0 }
 {
-    let mut i = 0;
-    while i < board.len() {
-        board[i] = 0;
-        i += 1;
-    }
+    board.fill(0);
 }
 
-// Does some byte after the edition carry the holder's number?
+// Does some byte after the edition carry the holder's number? Every byte is looked at: a loop that can stop early is not vectorized.
 pub fn holder_stands(board: &[u8], h: u8) -> bool
     requires { header ≤ length board.now }
     ensures { result ≡ stands board.now h }
 {
     let mut found = false;
-    let mut at = HEADER;
-    while at < board.len() {
-        found = found | carries(board[at], h);
-        at += 1;
+    for b in &board[HEADER..] {
+        found = found | carries(*b, h);
     }
     found
 }
 
-// A byte after the holder h is withdrawn.
+// A byte after the holder h is withdrawn: a value and no branch, so that the loop over the bytes is vectorized.
 fn withdrawn(x: u8, h: u8) -> u8
     ensures { result ≡ cond (eqb x h) 0 x }
 {
-    if x == h {
-        return 0;
-    }
-    x
+    if x == h { 0 } else { x }
 }
 
 // Sets every byte of the holder to 0; the edition's bytes are no holder's.
@@ -103,9 +84,7 @@ pub fn clear_holder(board: &mut [u8], h: u8)
     requires { header ≤ length board.old }
     ensures { board.new ≡ clear h board.old }
 {
-    let mut i = HEADER;
-    while i < board.len() {
-        board[i] = withdrawn(board[i], h);
-        i += 1;
+    for b in &mut board[HEADER..] {
+        *b = withdrawn(*b, h);
     }
 }

@@ -4,32 +4,14 @@ use Prim.Native.Nat.{ℕ, zero, suc, ◌+◌, ◌*◌, ◌-◌, ◌≤◌, ◌<�
 use native.Mathlib.Omega.{arith}
 use native.Mathlib.Numerals.{add-one}
 use native.Mathlib.Nat.{zero-add}
-use mathlib.Core.Path.{◌≡◌, refl, sym, ap, ap₂, ◌∙◌, fun_ext}
+use mathlib.Core.Path.{◌≡◌, refl, sym, ap, ap₂, ◌∙◌}
 use mathlib.Core.Bool.{Bool, true, false, and-true, and-false}
 use mathlib.Core.List.{List, [], ◌∷◌, ◌++◌}
 use lib.ListN.{length, set, drop, length-set}
 use lib.Seq.{sets, sets-eq}
-use Rattle.meaning.specs.Site.{Site}
-use Rattle.meaning.specs.Board.{free}
 use Rattle.meaning.specs.Intervals.{Interval, begins, run_end, intervals_from, intervals, numbers_of}
 use Rattle.meaning.specs.Calls.{over}
-use Rattle.meaning.proofs.BasicsLaws.{same_test}
-use Rattle.meaning.proofs.BytesLaws.{tells_free}
 use Rattle.meaning.proofs.IntervalLaws.{intervals_right}
-
--- ---- sites with one horizon and one margin
-
--- a site that has the cell, and of which nothing else matters
-abbrev pub plain : ℕ → ℕ → ℕ → Site
-plain horizon margin cell = record { horizon = horizon; cells = suc cell; margin = margin; states = []; motions = []; centres = [] }
-
-pub free_same : (site : Site) (board : List ℕ) (horizon margin c : ℕ) → site.horizon ≡ horizon → site.margin ≡ margin → c < site.cells
-    → free (plain horizon margin c) board c ≡ free site board c
-free_same site board horizon margin c same spaced inside =
-    let here : Site = plain site.horizon site.margin c in
-    rw (← same, ← spaced) (fun_ext (λ t. same_test _ _
-    (λ h. let (hc, ht, zeros) = (tells_free here board c t).then h in (tells_free site board c t).back (inside, ht, zeros))
-    (λ h. let (hc, ht, zeros) = (tells_free site board c t).then h in (tells_free here board c t).back (omega arith, ht, zeros))))
 
 -- ---- where an interval begins
 

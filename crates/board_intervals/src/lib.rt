@@ -3,40 +3,34 @@
 
 ghost use Rattle.std.specs.Prelude.{◌≡◌, ◌+◌, ◌*◌, ◌-◌, ◌<◌, ◌≤◌, length, set};
 ghost use Rattle.meaning.specs.Limits.{horizon_limit};
-ghost use Rattle.meaning.specs.Site.{Site};
-ghost use Rattle.meaning.specs.Board.{free};
 ghost use Rattle.meaning.specs.Intervals.{begins, run_end, intervals, numbers_of};
 ghost use Rattle.meaning.specs.Calls.{over};
-ghost use Rattle.board_ticks.specs.Runs.{Row};
+ghost use Rattle.board_ticks.specs.Ticks.{frees};
+
+use board_ticks::CellTicks;
 
 // Does an interval begin at the tick?
-fn begins_at(board: &[u8], horizon: usize, margin: usize, cell: usize, t: usize) -> bool
-    requires { Row (length board.now) horizon cell t }
-    ensures { (site : Site) → site.horizon ≡ horizon → site.margin ≡ margin → cell < site.cells → result ≡ begins (free site board.now cell) t }
+fn begins_at(ticks: &CellTicks<'_>, t: usize) -> bool
+    requires { t ≤ ticks.now.horizon }
+    ensures { result ≡ begins (frees ticks.now) t }
 {
-    if t == 0 {
-        return board_ticks::is_free(board, horizon, margin, cell, t);
-    }
-    if board_ticks::is_free(board, horizon, margin, cell, t - 1) {
-        return false;
-    }
-    board_ticks::is_free(board, horizon, margin, cell, t)
+    (t == 0 || !ticks.is_free(t - 1)) && ticks.is_free(t)
 }
 
 // The last tick of the run of free ticks from the tick first on.
-fn run_end(board: &[u8], horizon: usize, margin: usize, cell: usize, first: usize) -> usize
-    requires { Row (length board.now) horizon cell first }
-    ensures upper_bound { result ≤ horizon }
-    ensures value { (site : Site) → site.horizon ≡ horizon → site.margin ≡ margin → cell < site.cells → result ≡ run_end (free site board.now cell) first (horizon - first) }
+fn run_end(ticks: &CellTicks<'_>, first: usize) -> usize
+    requires { first ≤ ticks.now.horizon }
+    ensures upper_bound { result ≤ ticks.now.horizon }
+    ensures value { result ≡ run_end (frees ticks.now) first (ticks.now.horizon - first) }
 {
-    let mut t = first;
-    while t + 1 <= horizon {
-        if !board_ticks::is_free(board, horizon, margin, cell, t + 1) {
-            return t;
+    let mut last = first;
+    for t in first + 1..ticks.horizon + 1 {
+        if !ticks.is_free(t) {
+            return last;
         }
-        t += 1;
+        last = t;
     }
-    t
+    last
 }
 
 // Writes the first and last tick of interval k.
@@ -51,27 +45,18 @@ fn put_interval(out: &mut [u16], k: usize, first: usize, last: usize)
 }
 
 // Writes the first and last tick of each interval of the cell, in rising order, and returns how many there are.
-pub fn write_intervals(
-    board: &[u8],
-    horizon: usize,
-    margin: usize,
-    cell: usize,
-    out: &mut [u16],
-) -> usize
-    requires row { Row (length board.now) horizon cell horizon }
-    requires horizon_in_bounds { horizon + 2 ≤ length out.old }
-    ensures value { (site : Site) → site.horizon ≡ horizon → site.margin ≡ margin → cell < site.cells → result ≡ length (intervals (free site board.now cell) horizon) }
-    ensures out_after { (site : Site) → site.horizon ≡ horizon → site.margin ≡ margin → cell < site.cells → out.new ≡ over (numbers_of (intervals (free site board.now cell) horizon)) out.old }
+pub fn write_intervals(ticks: &CellTicks<'_>, out: &mut [u16]) -> usize
+    requires { ticks.now.horizon + 2 ≤ length out.old }
+    ensures value { result ≡ length (intervals (frees ticks.now) ticks.now.horizon) }
+    ensures out_after { out.new ≡ over (numbers_of (intervals (frees ticks.now) ticks.now.horizon)) out.old }
 {
     let mut k = 0;
-    let mut t = 0;
-    while t <= horizon {
-        if begins_at(board, horizon, margin, cell, t) {
-            let last = run_end(board, horizon, margin, cell, t);
+    for t in 0..ticks.horizon + 1 {
+        if begins_at(ticks, t) {
+            let last = run_end(ticks, t);
             put_interval(out, k, t, last);
             k += 1;
         }
-        t += 1;
     }
     k
 }

@@ -6,7 +6,7 @@ ghost use Rattle.meaning.specs.Board.{sort_of, is_tug, is_closure, is_holder};
 ghost use Rattle.board_sorts.specs.Sorts.{sort_case};
 
 // Who holds a byte's pair.
-#[derive(Clone, Copy)]
+#[derive(Clone, Copy, PartialEq, Eq)]
 pub enum Sort {
     Free,
     Tug,
@@ -30,38 +30,26 @@ pub fn sort_of(b: u8) -> Sort
 pub fn is_free_byte(b: u8) -> bool
     ensures { result ≡ eqb b 0 }
 {
-    match sort_of(b) {
-        Sort::Free => true,
-        _ => false,
-    }
+    sort_of(b) == Sort::Free
 }
 
 // A tug's number, 1 to 199.
 pub fn is_tug(h: u8) -> bool
     ensures { result ≡ is_tug h }
 {
-    match sort_of(h) {
-        Sort::Tug => true,
-        _ => false,
-    }
+    sort_of(h) == Sort::Tug
 }
 
 // A closure's number, 200 to 254.
 pub fn is_closure(h: u8) -> bool
     ensures { result ≡ is_closure h }
 {
-    match sort_of(h) {
-        Sort::Closure => true,
-        _ => false,
-    }
+    sort_of(h) == Sort::Closure
 }
 
 // A number that may stand on the board, 1 to 254.
 pub fn is_holder(h: u8) -> bool
     ensures { result ≡ is_holder h }
 {
-    match sort_of(h) {
-        Sort::Tug | Sort::Closure => true,
-        _ => false,
-    }
+    matches!(sort_of(h), Sort::Tug | Sort::Closure)
 }

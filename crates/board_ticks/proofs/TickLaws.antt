@@ -1,17 +1,19 @@
 -- The ticks of a cell: where they are on the board, which are free and what marking them leaves, from a tick on.
 -- Assumes nothing.
-use Prim.Native.Nat.{ℕ, suc, ◌+◌, ◌*◌, ◌-◌, ◌<◌, ◌≤◌, min}
+use Prim.Native.Nat.{ℕ, zero, suc, ◌+◌, ◌*◌, ◌-◌, ◌<◌, ◌≤◌, min}
 use native.Mathlib.Omega.{arith}
-use mathlib.Core.Path.{◌≡◌, sym, ap, ap₂, ◌∙◌}
+use mathlib.Core.Path.{◌≡◌, refl, sym, ap, ap₂, ◌∙◌, fun_ext}
 use mathlib.Core.Bool.{Bool, true, false, not, ◌&&◌, true≢false}
 use mathlib.Core.List.{List}
-use borrow.Author.Tests.{ltb-true, ltb-false, eqb-true, eq-eqb, not-true, not-false}
+use borrow.Author.Tests.{ltb-true, ltb-false, eqb-true, eq-eqb, not-true}
 use lib.Dec.{ltb, eqb}
-use lib.ListN.{get_or, set}
+use lib.ListN.{length, get_or, set, take, drop}
+use lib.Seq.{drop-cons}
+use Rattle.std.specs.List.{list_all}
 use native.Mathlib.Numerals.{add-one}
 use Rattle.meaning.specs.Limits.{header, horizon_limit}
 use Rattle.meaning.specs.Basics.{all_from}
-use Rattle.meaning.specs.Site.{Site}
+use Rattle.meaning.specs.Site.{Site, site_of}
 use Rattle.meaning.specs.Board.{is_tug, place, byte_at, closable, free, run, run_to, mark, Free, board_length, all_free}
 use Rattle.meaning.specs.Plan.{free_from_to}
 use Rattle.meaning.specs.Refusals.{Not, Tug, Within}
@@ -20,17 +22,17 @@ use Rattle.meaning.proofs.SentenceLaws.{misses, fails}
 use Rattle.meaning.proofs.BytesLaws.{tells_tug, tells_free, tells_bytes}
 use Rattle.meaning.proofs.BoardLaws.{place_in}
 use Rattle.meaning.proofs.PlanLaws.{run_free}
-use Rattle.board_ticks.specs.Runs.{Row, barring, clear_run}
+use Rattle.meaning.proofs.SiteLaws.{read_well}
+use Rattle.site.specs.Ready.{Ready}
+use Rattle.site.specs.declared.Sizes.{Sizes}
+use Rattle.board_ticks.specs.Runs.{OnBoard}
+use Rattle.board_ticks.specs.Ticks.{plain, frees, closes, from_to}
+use Rattle.board_ticks.specs.declared.cell_ticks.CellTicks.{CellTicks}
 
 -- ---- a tick of the site is on its board
 
-pub row_on : (site : Site) (size cell tick : ℕ) → size ≡ board_length site → site.horizon ≤ horizon_limit → cell < site.cells → tick ≤ site.horizon
-    → Row size site.horizon cell tick
-row_on site size cell tick e short hc ht = record {
-  short = short;
-  in_time = ht;
-  on_board_lem = omega (arith, place_in site cell site.horizon hc (omega arith));
-}
+pub cell_on : (site : Site) (size cell : ℕ) → size ≡ board_length site → site.horizon ≤ horizon_limit → cell < site.cells → OnBoard size site.horizon cell
+cell_on site size cell e short hc = record { short = short; inside = omega (arith, place_in site cell site.horizon hc (omega arith)) }
 
 -- ---- ticks of a cell
 
@@ -48,33 +50,38 @@ module _ (p : ℕ → Bool) (t last : ℕ) where
   pub free_end : last < t → all_from p t (suc last - t) ≡ true
   free_end h = ap (all_from p t) (done t last h)
 
--- which bytes must not be there
-pub bar_tugs : (tugs : Bool) (b : ℕ) → tugs ≡ true → is_tug b ≡ barring tugs b
-unfolding barring
-bar_tugs tugs b e = rw e
+-- a test of the bytes that begin at a place, from the tick first to the tick last
+abbrev pub runs : (ℕ → Bool) → List ℕ → ℕ → ℕ → ℕ → Bool
+runs p board row first last = all_from (λ (x : ℕ). p (get_or board (row + x) 0)) first (suc last - first)
 
-pub bar_all : (tugs : Bool) (b : ℕ) → tugs ≡ false → not (eqb b 0) ≡ barring tugs b
-unfolding barring
-bar_all tugs b e = rw e
+-- is that of the slice of them
+slice_runs : (p : ℕ → Bool) (board : List ℕ) (row n t : ℕ) → row + t + n ≤ length board
+    → list_all p (take n (drop (row + t) board)) ≡ all_from (λ (x : ℕ). p (get_or board (row + x) 0)) t n
+slice_runs p board row zero t fits = refl
+slice_runs p board row (suc n) t fits =
+    let place : suc (row + t) ≡ row + suc t = omega arith in
+    ap (λ (bytes : List ℕ). list_all p (take (suc n) bytes)) (drop-cons board (row + t) 0 (omega arith))
+    ∙ ap (λ (k : ℕ). p (get_or board (row + t) 0) && list_all p (take n (drop k board))) place
+    ∙ ap (λ (b : Bool). p (get_or board (row + t) 0) && b) (slice_runs p board row n (suc t) (omega arith))
 
--- a turn of the loop over the bytes, and its end
-pub clear_turn : (tugs : Bool) (board : List ℕ) (row t last : ℕ) (b : Bool) → t ≤ last → barring tugs (get_or board (row + t) 0) ≡ b
-    → clear_run tugs board row t last ≡ not b && clear_run tugs board row (t + 1) last
-unfolding clear_run
-clear_turn tugs board row t last b le e = free_turn (λ (x : ℕ). not (barring tugs (get_or board (row + x) 0))) t last (not b) le (ap not e)
+pub slice_tests : (p : ℕ → Bool) (board : List ℕ) (row first last : ℕ) → first ≤ suc last → row + last < length board
+    → list_all p (take (row + last + 1 - (row + first)) (drop (row + first) board)) ≡ runs p board row first last
+slice_tests p board row first last le fits =
+    let size : row + last + 1 - (row + first) ≡ suc last - first = omega arith in
+    ap (λ (n : ℕ). list_all p (take n (drop (row + first) board))) size ∙ slice_runs p board row (suc last - first) first (omega arith)
 
-pub clear_end : (tugs : Bool) (board : List ℕ) (row t last : ℕ) → last < t → clear_run tugs board row t last ≡ true
-unfolding clear_run
-clear_end tugs board row t last lt = free_end (λ (x : ℕ). not (barring tugs (get_or board (row + x) 0))) t last lt
+-- which bytes may be there: those of nobody, and those of no tug
+abbrev pub unheld : ℕ → Bool
+unheld b = eqb b 0
+
+abbrev pub tugless : ℕ → Bool
+tugless b = not (is_tug b)
 
 module _ (site : Site) (h c t last : ℕ) (board : List ℕ) where
   pub mark_next : t ≤ last → mark site h (run_to c t last) board ≡ mark site h (run_to c (t + 1) last) (set board (place site c t) h)
   mark_next le =
       ap (λ (n : ℕ). mark site h (run c t n) board) (more t last le)
       ∙ ap (λ (u : ℕ). mark site h (run c u (suc last - (t + 1))) (set board (place site c t) h)) (sym (add-one t))
-
-  pub mark_end : last < t → mark site h (run_to c t last) board ≡ board
-  mark_end lt = ap (λ (n : ℕ). mark site h (run c t n) board) (done t last lt)
 
 -- ---- a run within the margin
 
@@ -116,89 +123,126 @@ module _ (site : Site) (good : ℕ → Bool) (first last : ℕ) (le : first ≤ 
 -- ---- free, and what a closure may take
 
 -- a run of ticks that a test holds of
-from_to : (f : Free) (c first last : ℕ) → ((t : ℕ) → first ≤ t → t ≤ last → f c t ≡ true) → free_from_to f c first last ≡ true
-from_to f c first last h = all_from_true (f c) first (suc last - first) (λ t lo hi. h t lo (omega arith))
+each_tick_so : (f : Free) (c first last : ℕ) → ((t : ℕ) → first ≤ t → t ≤ last → f c t ≡ true) → free_from_to f c first last ≡ true
+each_tick_so f c first last h = all_from_true (f c) first (suc last - first) (λ t lo hi. h t lo (omega arith))
 
 each_tick : (f : Free) (c first last : ℕ) → free_from_to f c first last ≡ true → (t : ℕ) → first ≤ t → t ≤ last → f c t ≡ true
 each_tick f c first last h t lo hi = all_from_in (f c) first (suc last - first) t h lo (omega arith)
 
-pub none_free : (f : Free) (c first last : ℕ) → last < first → true ≡ free_from_to f c first last
-none_free f c first last lt = sym (free_end (f c) first last lt)
-
-pub one_free : (f : Free) (c t : ℕ) → free_from_to f c t t ≡ f c t
-one_free f c t = same_test _ _ (λ h. each_tick f c t t h t (omega arith) (omega arith)) (λ h. from_to f c t t (λ u lo hi. let same : u ≡ t = omega arith in rw same h))
-
 module _ (site : Site) (board : List ℕ) (c : ℕ) (hc : c < site.cells) where
-  -- no byte of the cell at the tick that must not be there
-  abbrev clear_at : Bool → ℕ → Bool
-  clear_at tugs x = not (barring tugs (byte_at site board c x))
+  -- the byte of the cell at the tick passes a test
+  abbrev passes : (ℕ → Bool) → ℕ → Bool
+  passes p x = p (byte_at site board c x)
 
-  zero_at : (x : ℕ) → clear_at false x ≡ true → byte_at site board c x ≡ 0
-  unfolding barring
-  zero_at x h = eqb-true _ 0 (not-false _ (not-true _ h))
-
-  at_zero : (x : ℕ) → byte_at site board c x ≡ 0 → clear_at false x ≡ true
-  unfolding barring
-  at_zero x e = ap (λ (b : Bool). not (not b)) (eq-eqb _ 0 e)
-
-  no_tug_at : (x : ℕ) → clear_at true x ≡ true → Not (Tug (byte_at site board c x))
-  unfolding barring
+  no_tug_at : (x : ℕ) → passes tugless x ≡ true → Not (Tug (byte_at site board c x))
   no_tug_at x h = misses (tells_tug _) (not-true _ h)
 
-  at_no_tug : (x : ℕ) → Not (Tug (byte_at site board c x)) → clear_at true x ≡ true
-  unfolding barring
+  at_no_tug : (x : ℕ) → Not (Tug (byte_at site board c x)) → passes tugless x ≡ true
   at_no_tug x none = ap not (fails (tells_tug _) none)
 
   module _ (first last : ℕ) (le : first ≤ last) (in_time : last ≤ site.horizon) where
     abbrev row : ℕ
     row = header + c * (site.horizon + 1)
 
-    pub clear_free : clear_run false board row (first - site.margin) (min (last + site.margin) site.horizon) ≡ free_from_to (free site board) c first last
-    unfolding clear_run
+    pub clear_free : runs unheld board row (first - site.margin) (min (last + site.margin) site.horizon) ≡ free_from_to (free site board) c first last
     clear_free = same_test _ _
-        (λ h. from_to (free site board) c first last (λ t lo hi.
-        (tells_free site board c t).back (hc, omega arith, λ x early near. zero_at x (around_each site (clear_at false) first last le h t x lo hi early near))))
-        (λ h. each_around site (clear_at false) first last le (λ t x lo hi early near.
-        at_zero x (((tells_free site board c t).then (each_tick (free site board) c first last h t lo hi)).2 x early near)))
+        (λ h. each_tick_so (free site board) c first last (λ t lo hi.
+        (tells_free site board c t).back (hc, omega arith, λ x early near. eqb-true _ 0 (around_each site (passes unheld) first last le h t x lo hi early near))))
+        (λ h. each_around site (passes unheld) first last le (λ t x lo hi early near.
+        eq-eqb _ 0 (((tells_free site board c t).then (each_tick (free site board) c first last h t lo hi)).2 x early near)))
 
     -- what a closure may take: the run itself unheld, and no tug around it
-    pub not_closable : clear_run false board row first last ≡ false → false ≡ free_from_to (closable site board) c first last
-    unfolding clear_run
+    pub not_closable : runs unheld board row first last ≡ false → false ≡ free_from_to (closable site board) c first last
     not_closable h =
         decide (free_from_to (closable site board) c first last)
         (λ e.
-        let all_clear : all_from (clear_at false) first (suc last - first) ≡ true =
-        from_to (λ (d : ℕ). clear_at false) c first last (λ t lo hi.
-        at_zero t ((tells_bytes site board c t).then (each_tick (closable site board) c first last e t lo hi)).2) in
+        let all_clear : all_from (passes unheld) first (suc last - first) ≡ true =
+        each_tick_so (λ (d : ℕ). passes unheld) c first last (λ t lo hi.
+        eq-eqb _ 0 ((tells_bytes site board c t).then (each_tick (closable site board) c first last e t lo hi)).2) in
         absurd (true≢false (sym all_clear ∙ h)))
         (λ e. sym e)
 
-    pub clear_closable : clear_run false board row first last ≡ true
-        → clear_run true board row (first - site.margin) (min (last + site.margin) site.horizon) ≡ free_from_to (closable site board) c first last
-    unfolding clear_run
+    pub clear_closable : runs unheld board row first last ≡ true
+        → runs tugless board row (first - site.margin) (min (last + site.margin) site.horizon) ≡ free_from_to (closable site board) c first last
     clear_closable zeros = same_test _ _
-        (λ h. from_to (closable site board) c first last (λ t lo hi.
+        (λ h. each_tick_so (closable site board) c first last (λ t lo hi.
         (tells_bytes site board c t).back (
           hc,
           omega arith,
-          zero_at t (each_tick (λ (d : ℕ). clear_at false) c first last zeros t lo hi),
-          λ x early near. no_tug_at x (around_each site (clear_at true) first last le h t x lo hi early near),
+          eqb-true _ 0 (each_tick (λ (d : ℕ). passes unheld) c first last zeros t lo hi),
+          λ x early near. no_tug_at x (around_each site (passes tugless) first last le h t x lo hi early near),
         )))
-        (λ h. each_around site (clear_at true) first last le (λ t x lo hi early near.
+        (λ h. each_around site (passes tugless) first last le (λ t x lo hi early near.
         at_no_tug x (((tells_bytes site board c t).then (each_tick (closable site board) c first last h t lo hi)).3 x early near)))
 
--- the same, by the numbers that the code has
-module _ (site : Site) (board : List ℕ) (horizon margin c first last lo hi : ℕ) (same : site.horizon ≡ horizon) (spaced : site.margin ≡ margin)
-    (hc : c < site.cells) (le : first ≤ last) (in_time : last ≤ horizon) (low : lo ≡ first - margin) (high : hi ≡ min (last + margin) horizon) where
-  pub clear_free_of : clear_run false board (header + c * (horizon + 1)) lo hi ≡ free_from_to (free site board) c first last
-  clear_free_of = rw (low, high, ← spaced, ← same) (clear_free site board c hc first last le (omega arith))
+-- the same, by the numbers and the slices that the code has
+module _ (ticks : CellTicks) (first last lo hi : ℕ) (le : first ≤ last) (in_time : last ≤ ticks.horizon)
+    (low : lo ≡ first - ticks.margin) (high : hi ≡ min (last + ticks.margin) ticks.horizon) where
+  abbrev start : ℕ
+  start = header + ticks.cell * (ticks.horizon + 1)
 
-  pub not_closable_of : clear_run false board (header + c * (horizon + 1)) first last ≡ false → false ≡ free_from_to (closable site board) c first last
-  not_closable_of h = not_closable site board c hc first last le (omega arith) (rw same h)
+  -- the slice of the cell's bytes from a tick to a tick
+  abbrev bytes : ℕ → ℕ → List ℕ
+  bytes t u = take (start + u + 1 - (start + t)) (drop (start + t) ticks.board.now)
 
-  pub clear_closable_of : clear_run false board (header + c * (horizon + 1)) first last ≡ true
-      → clear_run true board (header + c * (horizon + 1)) lo hi ≡ free_from_to (closable site board) c first last
-  clear_closable_of h = rw (low, high, ← spaced) (rw (← same) (clear_closable site board c hc first last le (omega arith) (rw same h)))
+  around_slice : (p : ℕ → Bool) → list_all p (bytes lo hi) ≡ runs p ticks.board.now start lo hi
+  around_slice p = slice_tests p ticks.board.now start lo hi (omega arith) (omega (arith, ticks.on_board.inside))
+
+  run_slice : (p : ℕ → Bool) → list_all p (bytes first last) ≡ runs p ticks.board.now start first last
+  run_slice p = slice_tests p ticks.board.now start first last (omega arith) (omega (arith, ticks.on_board.inside))
+
+  pub clear_free_of : list_all unheld (bytes lo hi) ≡ from_to (frees ticks) first last
+  clear_free_of = around_slice unheld ∙ rw (low, high) (clear_free (plain ticks.horizon ticks.margin ticks.cell) ticks.board.now ticks.cell (omega arith) first last le in_time)
+
+  pub not_closable_of : list_all unheld (bytes first last) ≡ false → false ≡ from_to (closes ticks) first last
+  not_closable_of h = not_closable (plain ticks.horizon ticks.margin ticks.cell) ticks.board.now ticks.cell (omega arith) first last le in_time (sym (run_slice unheld) ∙ h)
+
+  pub clear_closable_of : list_all unheld (bytes first last) ≡ true → list_all tugless (bytes lo hi) ≡ from_to (closes ticks) first last
+  clear_closable_of h =
+      around_slice tugless
+      ∙ rw (low, high) (clear_closable (plain ticks.horizon ticks.margin ticks.cell) ticks.board.now ticks.cell (omega arith) first last le in_time (sym (run_slice unheld) ∙ h))
+
+-- ---- on a site that has the cell, with this horizon and this margin
+
+module _ (site : Site) (board : List ℕ) {horizon margin c : ℕ} (same : horizon ≡ site.horizon) (spaced : margin ≡ site.margin) (inside : c < site.cells) where
+  abbrev here : Site
+  here = plain site.horizon site.margin c
+
+  plain_free : free (plain horizon margin c) board c ≡ free site board c
+  plain_free = rw (same, spaced) (fun_ext (λ t. same_test _ _
+      (λ h. let (hc, ht, zeros) = (tells_free here board c t).then h in (tells_free site board c t).back (inside, ht, zeros))
+      (λ h. let (hc, ht, zeros) = (tells_free site board c t).then h in (tells_free here board c t).back (omega arith, ht, zeros))))
+
+  plain_closable : closable (plain horizon margin c) board c ≡ closable site board c
+  plain_closable = rw (same, spaced) (fun_ext (λ t. same_test _ _
+      (λ h. let (hc, ht, nobody, none) = (tells_bytes here board c t).then h in (tells_bytes site board c t).back (inside, ht, nobody, none))
+      (λ h. let (hc, ht, nobody, none) = (tells_bytes site board c t).then h in (tells_bytes here board c t).back (omega arith, ht, nobody, none))))
+
+-- so what is_free, run_free and run_closable answer holds on each such site
+module _ (site : Site) (ticks : CellTicks) (same : ticks.horizon ≡ site.horizon) (spaced : ticks.margin ≡ site.margin) (inside : ticks.cell < site.cells) where
+  pub frees_are : frees ticks ≡ free site ticks.board.now ticks.cell
+  frees_are = plain_free site ticks.board.now same spaced inside
+
+  pub closes_are : closes ticks ≡ closable site ticks.board.now ticks.cell
+  closes_are = plain_closable site ticks.board.now same spaced inside
+
+-- ---- a cell of a file that is ready
+
+module _ {file : List ℕ} {room : ℕ} {l : Sizes} (r : Ready file room l) (c : ℕ) (inside : c < (site_of file).cells) where
+  same_horizon : l.horizon ≡ (site_of file).horizon
+  same_horizon = ap (λ (x : Sizes). x.horizon) r.sizes
+
+  same_margin : l.margin ≡ (site_of file).margin
+  same_margin = ap (λ (x : Sizes). x.margin) r.sizes
+
+  pub ready_cell : OnBoard room l.horizon c
+  ready_cell = rw same_horizon (cell_on (site_of file) room c r.board (read_well file (site_of file) r.read).horizon_range.1 inside)
+
+  pub ready_frees : (board : List ℕ) → free (plain l.horizon l.margin c) board c ≡ free (site_of file) board c
+  ready_frees board = plain_free (site_of file) board same_horizon same_margin inside
+
+  pub ready_closes : (board : List ℕ) → closable (plain l.horizon l.margin c) board c ≡ closable (site_of file) board c
+  ready_closes board = plain_closable (site_of file) board same_horizon same_margin inside
 
 -- ---- the pairs of a run are free where its ticks are
 

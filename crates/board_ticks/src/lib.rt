@@ -1,128 +1,111 @@
 // The ticks of a cell on the board: which are free, which a closure may take, and what is written over them.
 #![tactic(auto)]
 
-ghost use Rattle.std.specs.Prelude.{◌≡◌, ◌+◌, ◌-◌, ◌≤◌, ◌<◌, min, length};
+mod cell_ticks;
+
+ghost use Rattle.std.specs.Prelude.{◌≡◌, ◌+◌, ◌≤◌, ◌<◌, min, not, eqb, length};
+ghost use Rattle.std.specs.List.{list_all};
 ghost use Rattle.meaning.specs.Site.{Site};
-ghost use Rattle.meaning.specs.Board.{free, closable, mark, run_to};
-ghost use Rattle.meaning.specs.Plan.{free_from_to};
-ghost use Rattle.board_ticks.specs.Runs.{Row, barring, clear_run};
+ghost use Rattle.meaning.specs.Board.{is_tug, closable, mark, run_to};
+ghost use Rattle.site.specs.Halls.{site_in, free_in};
+ghost use Rattle.board_ticks.specs.Runs.{OnBoard};
+ghost use Rattle.board_ticks.specs.Ticks.{frees, closes, from_to};
 
-// ---- within the margin
-
-// The tick so many ticks before t, or the first one.
-fn earlier(t: usize, margin: usize) -> usize
-    ensures { result ≡ t - margin }
-{
-    if t < margin { 0 } else { t - margin }
-}
+pub use cell_ticks::CellTicks;
+use site::Hall;
 
 // The tick so many ticks after t, or the last one.
 fn later(t: usize, margin: usize, horizon: usize) -> usize
     requires { t ≤ horizon }
     ensures { result ≡ min (t + margin) horizon }
 {
-    if horizon - t < margin {
-        horizon
-    } else {
-        t + margin
-    }
+    t.saturating_add(margin).min(horizon)
 }
 
 // ---- the bytes of a run of ticks
 
-// Is the byte one that must not be there: a tug's where only tugs count, else any that is not 0?
-fn bars(b: u8, tugs: bool) -> bool
-    ensures { result ≡ barring tugs b }
+// Is each byte 0?
+fn none_held(bytes: &[u8]) -> bool
+    ensures { result ≡ list_all (λ b. eqb b 0) bytes.now }
 {
-    if tugs {
-        return board_sorts::is_tug(b);
-    }
-    !board_sorts::is_free_byte(b)
+    bytes.iter().all(|b| board_sorts::is_free_byte(*b))
 }
 
-// Is no byte of the cell from the tick first to the tick last, both included, one that must not be there? Its bytes begin at `row`.
-fn clear_run(board: &[u8], row: usize, first: usize, last: usize, tugs: bool) -> bool
-    requires { row + last < length board.now }
-    ensures { result ≡ clear_run tugs board.now row first last }
+// Is no byte a tug's?
+fn no_tug(bytes: &[u8]) -> bool
+    ensures { result ≡ list_all (λ b. not (is_tug b)) bytes.now }
 {
-    let mut t = first;
-    while t <= last {
-        if bars(board[row + t], tugs) {
-            return false;
-        }
-        t += 1;
-    }
-    true
+    bytes.iter().all(|b| !board_sorts::is_tug(*b))
 }
 
 // ---- free, and what a closure may take
 
-// Is the cell free from the tick first to the tick last, both included? Each byte from the margin before the first to the margin after the
-// last must be 0.
-pub fn run_free(
-    board: &[u8],
-    horizon: usize,
-    margin: usize,
-    cell: usize,
-    first: usize,
-    last: usize,
-) -> bool
-    requires { Row (length board.now) horizon cell last }
-    ensures { (site : Site) → site.horizon ≡ horizon → site.margin ≡ margin → cell < site.cells → result ≡ free_from_to (free site board.now) cell first last }
-{
-    if last < first {
-        return true;
+impl CellTicks<'_> {
+    // Is the cell free from the tick first to the tick last, both included? Each byte from the margin before the first to the margin after
+    // the last must be 0.
+    pub fn run_free(&self, first: usize, last: usize) -> bool
+        requires { last ≤ self.now.horizon }
+        ensures { result ≡ from_to (frees self.now) first last }
+    {
+        if last < first {
+            return true;
+        }
+        let row = board::HEADER + self.cell * (self.horizon + 1);
+        let low = first.saturating_sub(self.margin);
+        let high = later(last, self.margin, self.horizon);
+        none_held(&self.board[row + low..row + high + 1])
     }
-    let row = board::HEADER + cell * (horizon + 1);
-    let low = earlier(first, margin);
-    let high = later(last, margin, horizon);
-    clear_run(board, row, low, high, false)
+
+    // Is the cell free at the tick?
+    pub fn is_free(&self, t: usize) -> bool
+        requires { t ≤ self.now.horizon }
+        ensures { result ≡ frees self.now t }
+    {
+        self.run_free(t, t)
+    }
+
+    // May a closure take the cell from the tick first to the tick last, both included? Each of these bytes must be 0, and none from the
+    // margin before the first to the margin after the last a tug's.
+    pub fn run_closable(&self, first: usize, last: usize) -> bool
+        requires { last ≤ self.now.horizon }
+        ensures { result ≡ from_to (closes self.now) first last }
+    {
+        if last < first {
+            return true;
+        }
+        let row = board::HEADER + self.cell * (self.horizon + 1);
+        let low = first.saturating_sub(self.margin);
+        let high = later(last, self.margin, self.horizon);
+        none_held(&self.board[row + first..row + last + 1])
+            && no_tug(&self.board[row + low..row + high + 1])
+    }
 }
 
-// Is the cell free at the tick?
-pub fn is_free(board: &[u8], horizon: usize, margin: usize, cell: usize, tick: usize) -> bool
-    requires { Row (length board.now) horizon cell tick }
-    ensures { (site : Site) → site.horizon ≡ horizon → site.margin ≡ margin → cell < site.cells → result ≡ free site board.now cell tick }
+// The ticks of a cell of the hall.
+pub fn ticks_of<'a>(hall: &Hall<'a>, cell: usize) -> CellTicks<'a>
+    requires { cell < (site_in hall.now).cells }
+    ensures horizon { result.horizon ≡ (site_in hall.now).horizon }
+    ensures frees { frees result ≡ free_in hall.now cell }
+    ensures closes { closes result ≡ closable (site_in hall.now) hall.now.board.now cell }
 {
-    run_free(board, horizon, margin, cell, tick, tick)
-}
-
-// May a closure take the cell from the tick first to the tick last, both included? Each of these bytes must be 0, and none from the margin
-// before the first to the margin after the last a tug's.
-pub fn run_closable(
-    board: &[u8],
-    horizon: usize,
-    margin: usize,
-    cell: usize,
-    first: usize,
-    last: usize,
-) -> bool
-    requires { Row (length board.now) horizon cell last }
-    ensures { (site : Site) → site.horizon ≡ horizon → site.margin ≡ margin → cell < site.cells → result ≡ free_from_to (closable site board.now) cell first last }
-{
-    if last < first {
-        return true;
+    CellTicks {
+        board: hall.board,
+        horizon: hall.sizes.horizon,
+        margin: hall.sizes.margin,
+        cell,
     }
-    let row = board::HEADER + cell * (horizon + 1);
-    if !clear_run(board, row, first, last, false) {
-        return false;
-    }
-    let low = earlier(first, margin);
-    let high = later(last, margin, horizon);
-    clear_run(board, row, low, high, true)
 }
 
 // ---- writing
 
 // Writes the holder's number over the cell's ticks first to last, both included.
 pub fn mark_run(board: &mut [u8], horizon: usize, cell: usize, first: usize, last: usize, h: u8)
-    requires { Row (length board.old) horizon cell last }
+    requires { OnBoard (length board.old) horizon cell × (last ≤ horizon) }
     ensures { (site : Site) → site.horizon ≡ horizon → board.new ≡ mark site h (run_to cell first last) board.old }
 {
     let row = board::HEADER + cell * (horizon + 1);
-    let mut tick = first;
-    while tick <= last {
+    // By number and not over a slice of the bytes: `last` may lie before `first`, where such a slice has no range.
+    for tick in first..last + 1 {
         board[row + tick] = h;
-        tick += 1;
     }
 }

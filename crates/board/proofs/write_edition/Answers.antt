@@ -1,11 +1,16 @@
--- `board::write_edition` meets its contract: four stores at the front.
+-- `board::write_edition` meets its contract: the edition's bytes, high byte first, are written over the first four.
 -- Assumes nothing.
-use Prim.Native.Nat.{◌/◌, ◌%◌}
+use mathlib.Core.Path.{ap, ◌∙◌}
+use mathlib.Core.List.{List, ◌++◌}
+use Prim.Native.Nat.{ℕ}
+use lib.ListN.{drop}
+use Rattle.meaning.specs.Limits.{header}
 use Rattle.meaning.specs.Board.{with_edition}
-use Rattle.board.proofs.EditionLaws.{front}
+use Rattle.board.proofs.EditionLaws.{high_byte}
 use Rattle.board.proofs.write_edition.Goals as goal
 
 pub returns : goal.returns
 unfolding with_edition
-returns c = let n = c.args.n in
-    front c.args.board.now (n / 65536 / 256 % 256) (n / 65536 % 256) (n / 256 % 256) (n % 256) c.requires
+returns c =
+    ap (λ (bytes : List ℕ). bytes ++ drop header c.args.board.now) (c.copy_from_slice.ensures.after ∙ c.to_be_bytes.ensures)
+    ∙ high_byte c.args.n _

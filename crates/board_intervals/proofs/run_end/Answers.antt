@@ -1,26 +1,28 @@
--- `board_intervals::run_end` meets its contract. The invariant: the run from t on ends where the run from first on does.
+-- `board_intervals::run_end` meets its contract. The invariant: the run from the last tick on ends where the run from first on does.
 -- Assumes nothing.
-use mathlib.Core.Path.{sym, ◌∙◌}
-use Rattle.meaning.specs.Board.{free}
-use Rattle.board_intervals.proofs.Laws.{end_stop, end_next, end_last}
+use Prim.Native.Nat.{◌+◌}
 use native.Mathlib.Omega.{arith}
+use mathlib.Core.Path.{◌≡◌, refl, sym, ap, ◌∙◌}
+use mathlib.Core.Bool.{true, false}
+use Rattle.board_ticks.specs.Ticks.{frees}
+use Rattle.board_intervals.proofs.Laws.{end_stop, end_next, end_last}
 use Rattle.board_intervals.proofs.run_end.Goals as goal
 
 pub returns-then-not-is_free-clause-value : goal.returns-then-not-is_free-clause-value
 returns-then-not-is_free-clause-value c =
-    λ site same spaced inside.
-    let held = sym (c.is_free.ensures site same spaced inside) ∙ c.if-not-is_free.true in
-    sym (end_stop (free site c.args.board.now c.args.cell) c.loop-t.t c.args.horizon (omega arith) held) ∙ c.loop-t.invariant.1 site same spaced inside
+    let l = c.loop-t in
+    let f = frees c.args.ticks.now in
+    let held : f (l.last + 1) ≡ false = ap f l.invariant.0 ∙ sym c.is_free.ensures ∙ c.if-not-is_free.true in
+    sym (end_stop f l.last c.args.ticks.now.horizon (omega arith) held) ∙ l.invariant.1
 
 pub loop-t-preserved : goal.loop-t-preserved
-loop-t-preserved c = (
-  omega arith,
-  λ site same spaced inside.
-      let is_free = sym (c.is_free.ensures site same spaced inside) ∙ c.if-not-is_free.false in
-      sym (end_next (free site c.args.board.now c.args.cell) c.loop-t.t c.args.horizon (omega arith) is_free) ∙ c.loop-t.invariant.1 site same spaced inside,
-)
+loop-t-preserved c =
+    let l = c.loop-t in
+    let f = frees c.args.ticks.now in
+    let goes : f (l.last + 1) ≡ true = ap f l.invariant.0 ∙ sym c.is_free.ensures ∙ c.if-not-is_free.false in
+    (refl, rw (← l.invariant.0) (sym (end_next f l.last c.args.ticks.now.horizon (omega arith) goes)) ∙ l.invariant.1)
 
 pub returns-clause-value : goal.returns-clause-value
 returns-clause-value c =
-    λ site same spaced inside.
-    sym (end_last (free site c.args.board.now c.args.cell) c.loop-t.t c.args.horizon (omega arith)) ∙ c.loop-t.invariant.1 site same spaced inside
+    let l = c.loop-t in
+    sym (end_last (frees c.args.ticks.now) l.last c.args.ticks.now.horizon (omega arith)) ∙ l.invariant.1
