@@ -1,38 +1,14 @@
 -- Laws of bytes placed in an area: from the back to the front, as a light is traced.
 -- Assumes nothing.
-use Prim.Native.Nat.{ℕ, ◌+◌, ◌-◌, ◌/◌, ◌%◌, ◌≤◌}
+use Prim.Native.Nat.{ℕ, ◌+◌, ◌≤◌}
 use native.Mathlib.Omega.{arith}
 use native.Mathlib.Nat.{zero-add}
 use mathlib.Core.Path.{◌≡◌, sym, ap, ◌∙◌}
-use mathlib.Core.List.{List, ◌∷◌, ◌++◌, append_assoc, append-nil}
-use lib.ListN.{length, take, drop, length-append, length-drop}
-use lib.Seq.{length-take-le, take-append-le, take-length, take-take, drop_at, drop-drop, drop-length}
-use Rattle.meaning.specs.Limits.{step_size}
-use Rattle.meaning.specs.Basics.{put16}
-use Rattle.meaning.specs.Fields.{field_bytes}
+use mathlib.Core.List.{List, ◌++◌, append_assoc}
+use lib.ListN.{length, take, drop, length-append}
+use lib.Seq.{length-take-le, take-append-le, take-take, drop_at}
 use Rattle.meaning.specs.Calls.{over}
-use Rattle.light.specs.Sizes.{step_length}
-use Rattle.light_fields.specs.Areas.{tagged, placed}
-
--- bytes copied to the front of what is left of the area from `at` on
-copied : (at : ℕ) (new area last : List ℕ) → last ≡ new ++ drop (length new) (take (length area - at) (drop at area))
-    → take at area ++ (last ++ drop (length area - at) (drop at area)) ≡ placed at new area
-copied at new area last e =
-    rw (
-      e,
-      ← length-drop at area,
-      take-length (drop at area),
-      drop-length (drop at area),
-      append-nil (new ++ drop (length new) (drop at area)),
-      drop-drop (length new) at area,
-    )
-    (sym (append_assoc (take at area) new (drop (at + length new) area)))
-
--- a step's field, from its bytes
-pub step_copied : (at tag n high low : ℕ) (area last : List ℕ) → high ≡ n / 256 % 256 → low ≡ n % 256
-    → last ≡ tag ∷ 0 ∷ step_size ∷ high ∷ low ∷ drop step_length (take (length area - at) (drop at area))
-    → take at area ++ (last ++ drop (length area - at) (drop at area)) ≡ placed at (field_bytes (tagged tag (put16 n))) area
-step_copied at tag n high low area last h l e = copied at (field_bytes (tagged tag (put16 n))) area last (e ∙ rw (h, l))
+use Rattle.light_fields.specs.Areas.{placed}
 
 -- bytes placed just before others
 pub placed_before : (at next : ℕ) (new later area : List ℕ) → next ≡ at + length new → next + length later ≤ length area

@@ -1,6 +1,6 @@
 -- Laws of a light's head: when bytes are a light, and the numbers of its head by place.
 -- Assumes nothing.
-use Prim.Native.Nat.{ℕ, ◌+◌, ◌*◌, ◌≤◌, ◌<◌}
+use Prim.Native.Nat.{ℕ, ◌+◌, ◌≤◌, ◌<◌}
 use native.Mathlib.Omega.{arith}
 use mathlib.Core.Path.{◌≡◌, refl, sym, ap, ◌∙◌}
 use mathlib.Core.Bool.{Bool, true, false, ◌&&◌, true≢false, and-false}
@@ -9,7 +9,7 @@ use lib.Dec.{leb, eqb}
 use lib.ListN.{length, get_or, drop}
 use borrow.Author.Tests.{lt-leb, le-leb}
 use Rattle.meaning.specs.Limits.{light_limit, light_tag, light_head_size}
-use Rattle.meaning.specs.Basics.{every, u16_at}
+use Rattle.meaning.specs.Basics.{every, u16_at, u32_at}
 use Rattle.meaning.specs.Fields.{Field, Fields, next, no_field, fields, complete, listed}
 use Rattle.meaning.specs.Light.{is_light, is_light_head, light_head_of, light_of, in_layout, step_of}
 use Rattle.meaning.proofs.BasicsLaws.{every_at}
@@ -86,8 +86,8 @@ unfolding complete listed laid_from steps_from light_of
 accepted_field s h r =
     let n = u16_at s (0 + 1) in
     let e = at_next s 0 n refl r in
-    let (c, head_good_lem, layout) = accepted_next s (0 + 3 + n) h e in
-    let size : n ≡ light_head_size = sym (value_length s 0 n refl r) ∙ (head_tests (field_at s 0) head_good_lem).1 in
+    let (c, head_good, layout) = accepted_next s (0 + 3 + n) h e in
+    let size : n ≡ light_head_size = sym (value_length s 0 n refl r) ∙ (head_tests (field_at s 0) head_good).1 in
     let place : 0 + 3 + n ≡ first_step = omega arith in
     let list : listed (fields s) ≡ field_at s 0 ∷ listed (fields_at s first_step) =
     ap listed (sym (whole_at s) ∙ e) ∙ ap (λ (k : ℕ). field_at s 0 ∷ listed (fields_at s k)) place in
@@ -122,13 +122,13 @@ module _ (s : List ℕ) (h : is_light s ≡ true) where
       let e : 3 + (i + 1) ≡ 3 + i + 1 = omega arith in
       rw (head_byte i (omega arith), head_byte (i + 1) (omega arith), e)
 
-  pub head_numbers : (at high low tug start tick goal arrival dwell : ℕ) → at ≡ 3 → high ≡ u16_at s at → low ≡ u16_at s (at + 2)
+  pub head_numbers : (at edition tug start tick goal arrival dwell : ℕ) → at ≡ 3 → edition ≡ u32_at s at
       → tug ≡ get_or s (at + 4) 0 → start ≡ u16_at s (at + 5) → tick ≡ u16_at s (at + 7) → goal ≡ u16_at s (at + 9) → arrival ≡ u16_at s (at + 11)
       → dwell ≡ u16_at s (at + 13)
-      → record { edition = high * 65536 + low; tug = tug; start = start; tick = tick; goal = goal; arrival = arrival; dwell = dwell } ≡ head_of (light_of s)
+      → record { edition = edition; tug = tug; start = start; tick = tick; goal = goal; arrival = arrival; dwell = dwell } ≡ head_of (light_of s)
   unfolding light_of
-  head_numbers at high low tug start tick goal arrival dwell p e₀ e₁ e₂ e₃ e₄ e₅ e₆ e₇ =
-      rw (e₀, e₁, e₂, e₃, e₄, e₅, e₆, e₇, p)
+  head_numbers at edition tug start tick goal arrival dwell p e₀ e₁ e₂ e₃ e₄ e₅ e₆ =
+      rw (e₀, e₁, e₂, e₃, e₄, e₅, e₆, p)
       (sym (rw (
         head_byte 4 (omega arith),
         head_u16 0 (omega arith),

@@ -14,13 +14,7 @@ use light::Head;
 fn head_then_steps(s: &[u8], h: Header) -> bool
     ensures { result ≡ (eqb h.tag light_tag && eqb h.len light_head_size && laid_from true s.now h.next) }
 {
-    if h.tag != light::LIGHT_TAG {
-        return false;
-    }
-    if h.len != light::HEAD_SIZE {
-        return false;
-    }
-    light_steps::after_motion(s, h.next)
+    h.tag == light::LIGHT_TAG && h.len == light::HEAD_SIZE && light_steps::after_motion(s, h.next)
 }
 
 // The bytes are a light.
@@ -52,10 +46,8 @@ pub fn read_head(s: &[u8]) -> Head
     ensures { result ≡ head_of (light_of s.now) }
 {
     let at = head_value(s);
-    let high = fields::u16_at(s, at) as u32;
-    let low = fields::u16_at(s, at + 2) as u32;
     Head {
-        edition: high * 65536 + low,
+        edition: u32::from_be_bytes([s[at], s[at + 1], s[at + 2], s[at + 3]]),
         tug: s[at + 4],
         start: fields::u16_at(s, at + 5),
         tick: fields::u16_at(s, at + 7),

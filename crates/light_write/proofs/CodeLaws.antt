@@ -3,11 +3,11 @@
 use Prim.Native.Nat.{ℕ, zero, suc, ◌+◌, ◌*◌, ◌-◌, ◌≤◌, ◌<◌}
 use native.Mathlib.Omega.{arith}
 use native.Mathlib.Numerals.{add-one}
-use mathlib.Core.Path.{◌≡◌, refl, sym, ap, ◌∙◌}
+use mathlib.Core.Path.{◌≡◌, refl, sym, ap, ap₂, ◌∙◌}
 use mathlib.Core.List.{List, [], ◌∷◌, ◌++◌}
 use borrow.Author.Tests.{lt-ltb, le-ltb}
-use lib.ListN.{length, get_or, length-append}
-use lib.Seq.{paste-zero}
+use lib.ListN.{length, get_or, take, length-append}
+use lib.Seq.{paste-zero, get_or-take, length-take-le}
 use Rattle.meaning.specs.Plan.{Step, wait, move}
 use Rattle.meaning.specs.Fields.{field_bytes}
 use Rattle.meaning.specs.Light.{Light, light_head, step_field, encode}
@@ -35,6 +35,16 @@ pub length_steps : (path : List ℕ) (c : ℕ) → length (steps_in path c) ≡ 
 unfolding steps_in
 length_steps path zero = refl
 length_steps path (suc c) = ap suc (length_steps path c)
+
+-- the codes of a stack's front are the first of the whole
+steps_front : (path : List ℕ) (n c : ℕ) → c ≤ n → steps_in (take n path) c ≡ steps_in path c
+unfolding steps_in
+steps_front path n zero le = refl
+steps_front path n (suc c) le =
+    ap₂ (λ (x : ℕ) (ps : List Step). step_of_code x ∷ ps) (get_or-take n path c 0 (omega arith)) (steps_front path n c (omega arith))
+
+pub steps_of_front : (path : List ℕ) (c : ℕ) → c ≤ length path → steps_in (take c path) (length (take c path)) ≡ steps_in path c
+steps_of_front path c le = ap (steps_in (take c path)) (length-take-le c path le) ∙ steps_front path c c (omega arith)
 
 -- ---- bytes
 

@@ -12,7 +12,7 @@ ghost use Rattle.light_write.specs.Codes.{code_limit, step_of_code, steps_in, st
 
 use light::Head;
 
-// The code of motion 0: lower codes are waits.
+// The code of motion 0: lower codes are waits. A code is a number and no enum, so that a step of the search's fixed stack is two bytes.
 pub const FIRST_MOVE: u16 = 1001;
 
 // How many codes a stack holds.
@@ -30,17 +30,15 @@ fn write_code(out: &mut [u8], at: usize, code: u16)
     light_fields::write_step(out, at, light::MOVE_TAG, code - FIRST_MOVE);
 }
 
-// Writes the steps of `count` codes behind the head, the last code's first.
-fn write_steps(out: &mut [u8], path: &[u16; CODE_LIMIT], count: usize)
-    requires { (count ≤ code_limit) × (light_length count ≤ length out.old) }
-    ensures { out.new ≡ placed first_step (step_bytes (steps_in path.now count)) out.old }
+// Writes the steps of a stack of codes behind the head, the last code's first.
+fn write_steps(out: &mut [u8], path: &[u16])
+    requires { (length path.now ≤ code_limit) × (light_length (length path.now) ≤ length out.old) }
+    ensures { out.new ≡ placed first_step (step_bytes (steps_in path.now (length path.now))) out.old }
 {
-    let mut i = 0;
-    let mut at = light::length_of(count);
-    while i < count {
+    let mut at = light::length_of(path.len());
+    for code in path {
         at -= light::STEP_FIELD;
-        write_code(out, at, path[i]);
-        i += 1;
+        write_code(out, at, *code);
     }
 }
 
@@ -49,6 +47,6 @@ pub fn write_light(out: &mut [u8], path: &[u16; CODE_LIMIT], count: usize, head:
     requires { (count ≤ code_limit) × (light_length count ≤ length out.old) }
     ensures { out.new ≡ over (encode (light_with head (steps_in path.now count))) out.old }
 {
-    write_steps(out, path, count);
+    write_steps(out, &path[..count]);
     light_fields::write_head(out, head);
 }
