@@ -8,7 +8,7 @@ use mathlib.Core.List.{List, [], ◌∷◌}
 use mathlib.Core.Option.{Option, none, some}
 use lib.Dec.{leb, eqb}
 use lib.ListN.{length}
-use borrow.Author.Tests.{lt-ltb, le-ltb, ltb-true, leb-true, ne_eqb, eq-eqb, eqb-true}
+use borrow.Author.Tests.{lt-ltb, le-ltb, ltb-true, leb-true, eqb-true}
 use Rattle.meaning.specs.Basics.{every, all}
 use Rattle.meaning.specs.Site.{Site, site_of, cell_of}
 use Rattle.meaning.specs.Board.{Free}
@@ -66,11 +66,9 @@ start_known file f a h = record { state = ltb-true _ _ (every_at _ h 0); tick = 
 
 -- ---- where it ends
 
-pub other_state : (s t : ℕ) (a : Plan.Node) → (a.state ≡ s → ⊥) → is_at s t (some a) ≡ false
-other_state s t a h = every_fails (eqb a.state s ∷ eqb a.tick t ∷ []) 0 (ne_eqb _ _ h)
-
-pub same_state : (s t : ℕ) (a : Plan.Node) → a.state ≡ s → is_at s t (some a) ≡ eqb a.tick t
-same_state s t a h = last_of_two (eqb a.state s) (eqb a.tick t) (eq-eqb _ _ h)
+pub same_node : (h : Head) (a g : Plan.Node) → g ≡ goal_in h → eqb a.state g.state && eqb a.tick g.tick ≡ is_at h.goal h.arrival (some a)
+unfolding every
+same_node h a g e = rw e (ap (λ (b : Bool). eqb a.state h.goal && b) (sym (and-true (eqb a.tick h.arrival))))
 
 -- where the tug can unload there: the test of the code looks at the node that the walk ends at, which is the light's goal
 module _ (site : Site) (f : Free) (h : Head) (a : Plan.Node) where

@@ -2,12 +2,12 @@
 -- Assumes nothing.
 use Prim.Native.Nat.{ℕ, ◌≤◌, ◌<◌}
 use native.Mathlib.Omega.{arith}
-use mathlib.Core.Path.{◌≡◌, sym, ap, ◌∙◌}
+use mathlib.Core.Path.{◌≡◌, sym, ap, ◌∙◌, subst}
 use mathlib.Core.Bool.{true, false}
 use mathlib.Core.List.{List, [], ◌∷◌}
 use mathlib.Core.Option.{none, some}
 use lib.ListN.{length}
-use Rattle.meaning.specs.Site.{Site, site_of}
+use Rattle.meaning.specs.Site.{Site, site_of, motion_at}
 use Rattle.meaning.specs.Board.{Free}
 use Rattle.meaning.specs.Plan as Plan
 use Rattle.meaning.specs.Plan.{allowed, walk, start_free, plan_end}
@@ -15,9 +15,16 @@ use Rattle.meaning.specs.WellFormed.{WellFormed}
 use Rattle.meaning.proofs.ReachLaws.{walk_step, reached_state, plan_reached}
 use Rattle.light_steps.specs.Steps.{laid_from, steps_from}
 use Rattle.light_steps.proofs.StepLaws.{On}
+use Rattle.site_read.specs.Motions.{MotionIs}
+use Rattle.site_read.specs.declared.Motion as ReadMotion
 use Rattle.plan_steps.specs.declared.Node.{Node}
 use Rattle.plan_steps.specs.Nodes.{node_of, Here}
 use Rattle.plan_steps.proofs.NodeLaws.{Next}
+
+-- ---- a motion that was read from the same file
+
+pub shown_in : {file hall : List ℕ} (k : ℕ) {m : ReadMotion.Motion} → file ≡ hall → MotionIs file (motion_at (site_of file) k) m → MotionIs hall (motion_at (site_of hall) k) m
+shown_in k {m} e = subst (λ (f : List ℕ). MotionIs f (motion_at (site_of f) k) m) e
 
 -- ---- one step of a walk
 

@@ -23,8 +23,8 @@ use Rattle.site.specs.declared.Sizes.{Sizes}
 use Rattle.site_read.specs.declared.Motion as ReadMotion
 use Rattle.site_read.specs.Motions.{MotionIs}
 use Rattle.site_read.proofs.Laws.{read_laid}
-use Rattle.board_ticks.specs.Runs.{Row}
-use Rattle.board_ticks.proofs.TickLaws.{row_on}
+use Rattle.board_ticks.specs.Runs.{OnBoard}
+use Rattle.board_ticks.proofs.TickLaws.{ready_cell}
 use Rattle.site.specs.Ready.{Ready}
 use Rattle.plan_steps.specs.Sweeps.{Sweeps, Swept}
 
@@ -38,22 +38,20 @@ pub record Known (file : List ℕ) (room : ℕ) (l : Sizes) : Type 0 where
   pub states : length (site_of file).states ≡ l.states
   pub motions : length (site_of file).motions ≡ l.motions
   pub cell : (s : ℕ) → s < length (site_of file).states → cell_of (site_of file) s < (site_of file).cells
-  pub row : (cell tick : ℕ) → cell < (site_of file).cells → tick ≤ (site_of file).horizon → Row room l.horizon cell tick
+  pub cell_on : (cell : ℕ) → cell < (site_of file).cells → OnBoard room l.horizon cell
 
 pub known : {file : List ℕ} {room : ℕ} {l : Sizes} → Ready file room l → Known file room l
 known {file} {room} {l} r =
     let well = read_well file _ r.read in
-    let short = well.horizon_range.1 in
-    let same : (site_of file).horizon ≡ l.horizon = ap (λ (x : Sizes). x.horizon) (sym r.sizes) in
     record {
       laid = read_laid file _ r.read;
-      short = short;
-      horizon = same;
+      short = well.horizon_range.1;
+      horizon = ap (λ (x : Sizes). x.horizon) (sym r.sizes);
       margin = ap (λ (x : Sizes). x.margin) (sym r.sizes);
       states = ap (λ (x : Sizes). x.states) (sym r.sizes);
       motions = ap (λ (x : Sizes). x.motions) (sym r.sizes);
       cell = cell_known (site_of file) well;
-      row = λ cell tick hc ht. subst (λ (h : ℕ). Row room h cell tick) same (row_on (site_of file) room cell tick r.board short hc ht);
+      cell_on = ready_cell r;
     }
 
 -- what is known of a motion that was read

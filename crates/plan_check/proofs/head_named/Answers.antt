@@ -11,4 +11,4 @@ returns-then-trip_named c = λ s e.
     c.in_time.ensures ∙ sym (head_on s c.args.head named _ (ap (λ (k : Sizes). k.horizon) e))
 
 pub returns-else-trip_named : goal.returns-else-trip_named
-returns-else-trip_named c = λ s e. sym (head_off s c.args.head (sym (c.trip_named.ensures s e) ∙ c.if-trip_named.false))
+returns-else-trip_named c = λ s e. c.if-trip_named.false ∙ sym (head_off s c.args.head (sym (c.trip_named.ensures s e) ∙ c.if-trip_named.false))

@@ -16,4 +16,4 @@ returns-then-head_named c = λ s e.
     ∙ sym (light_names s light _ _ c.requires c.read_head-head.ensures (sym (c.head_named.ensures s e) ∙ c.if-head_named.true))
 
 pub returns-else-head_named : goal.returns-else-head_named
-returns-else-head_named c = λ s e. sym (light_names s c.args.light.now _ _ c.requires c.read_head-head.ensures (sym (c.head_named.ensures s e) ∙ c.if-head_named.false))
+returns-else-head_named c = λ s e. c.if-head_named.false ∙ sym (light_names s c.args.light.now _ _ c.requires c.read_head-head.ensures (sym (c.head_named.ensures s e) ∙ c.if-head_named.false))

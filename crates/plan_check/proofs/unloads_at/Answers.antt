@@ -10,4 +10,4 @@ returns-then-at_goal c = c.can_stay.ensures
     ∙ sym (ends_there _ _ c.args.head (node_of c.args.b) (sym c.at_goal.ensures ∙ c.if-at_goal.true))
 
 pub returns-else-at_goal : goal.returns-else-at_goal
-returns-else-at_goal c = sym (ends_elsewhere _ _ c.args.head (node_of c.args.b) (sym c.at_goal.ensures ∙ c.if-at_goal.false))
+returns-else-at_goal c = c.if-at_goal.false ∙ sym (ends_elsewhere _ _ c.args.head (node_of c.args.b) (sym c.at_goal.ensures ∙ c.if-at_goal.false))

@@ -2,13 +2,12 @@
 -- Assumes nothing.
 use Prim.Native.Nat.{◌-◌}
 use lib.ListN.{length}
-use Rattle.meaning.specs.Site.{site_of}
-use Rattle.meaning.specs.Board.{free}
+use Rattle.site.specs.Halls.{free_in}
 use Rattle.plan_check.proofs.WalkLaws.{Walking}
 use Rattle.plan_check.proofs.walk_steps.Given as goal
 
 abbrev pub invariant-loop-n : goal.invariant-loop-n
-invariant-loop-n l = Walking l.file (free (site_of l.file) l.board) l.light l.first l.initial.here l.at l.here
+invariant-loop-n l = Walking l.hall.file.bytes.now (free_in l.hall) l.light l.first l.initial.here l.at l.here
 
 abbrev pub decreases-loop-n : goal.decreases-loop-n
 decreases-loop-n l = length l.light - l.at

@@ -10,7 +10,7 @@ use Rattle.plan_mark.proofs.mark_light.Goals as goal
 
 pub mark_wait-requires : goal.mark_wait-requires
 mark_wait-requires c = let p = c.requires in
-    let h = valid_start c.args.file.now _ c.args.light.now p.ready.2 p.light_value _ c.read_head-head.ensures c.start_of-start.result c.start_of-start.ensures in
+    let h = valid_start c.args.motions.now.file.bytes.now _ c.args.light.now p.ready.1 p.light_value _ c.read_head-head.ensures c.start_of-start.result c.start_of-start.ensures in
     (p.ready.0, h, omega (arith, h.tick))
 
 pub mark_steps-requires : goal.mark_steps-requires
@@ -21,20 +21,19 @@ mark_steps-requires c = let p = c.requires in
     record {
       ready = (
         keep c.mark_wait.auto.board p.ready.0,
-        p.ready.1,
-        valid_start c.args.file.now _ c.args.light.now p.ready.2 p.light_value _ head b start,
+        valid_start c.args.motions.now.file.bytes.now _ c.args.light.now p.ready.1 p.light_value _ head b start,
       );
-      first_value = (
-        (accepted c.args.light.now p.ready.2).laid,
-        valid_steps c.args.file.now _ c.args.light.now p.ready.2 p.light_value _ head b start,
+      laid_in_time = (
+        (accepted c.args.light.now p.ready.1).laid,
+        valid_steps c.args.motions.now.file.bytes.now _ c.args.light.now p.ready.1 p.light_value _ head b start,
       );
     }
 
 pub mark_wait-requires-2 : goal.mark_wait-requires-2
-mark_wait-requires-2 c = let (known, in_time) = valid_dock c.args.file.now (read_well _ _ c.requires.ready.0.read) _ c.args.light.now c.requires.light_value _ c.read_head-head.ensures _ c.goal_of-goal.ensures in
+mark_wait-requires-2 c = let (known, in_time) = valid_dock c.args.motions.now.file.bytes.now (read_well _ _ c.requires.ready.0.read) _ c.args.light.now c.requires.light_value _ c.read_head-head.ensures _ c.goal_of-goal.ensures in
     (keep (c.mark_steps.auto.board ∙ c.mark_wait.auto.board) c.requires.ready.0, known, in_time)
 
 pub returns : goal.returns
-returns c = light_marks (site_of c.args.file.now) c.args.light.now _ c.start_of-start.result c.goal_of-goal.result c.args.board.now _ _ _ c.requires.ready.2
+returns c = light_marks (site_of c.args.motions.now.file.bytes.now) c.args.light.now _ c.start_of-start.result c.goal_of-goal.result c.args.board.now _ _ _ c.requires.ready.1
     c.read_head-head.ensures c.start_of-start.ensures c.goal_of-goal.ensures
     c.mark_wait.ensures c.mark_steps.ensures c.mark_wait-2.ensures

@@ -1,6 +1,5 @@
 -- `plan_mark::mark_steps` meets its contract. The invariant: marking the steps from the place at on leaves the board as marking all does.
 -- Assumes nothing.
-use Prim.Native.Nat.{◌-◌}
 use mathlib.Core.Path.{refl}
 use mathlib.Core.Path.{sym, ap, ◌∙◌}
 use mathlib.Core.List.{List}
@@ -35,7 +34,7 @@ loop-n-preserved-in-Wait c = let o = wait_on _ _ _ _ (sym c.in-Wait.is ∙ c.ste
 
 pub motion_at-m-requires : goal.motion_at-m-requires
 motion_at-m-requires c = let o = move_on _ _ _ _ (sym c.in-Move.is ∙ c.step_at.ensures) in
-    ((known c.requires.ready.0).laid, c.requires.ready.1, (steps_in_time c.loop-n.invariant o).0)
+    (steps_in_time c.loop-n.invariant o).0
 
 pub mark_sweeps-requires : goal.mark_sweeps-requires
 mark_sweeps-requires c = let v = c.loop-n.invariant in
@@ -59,7 +58,7 @@ loop-n-preserved c = let l = c.loop-n in
     let shown = c.motion_at-m.ensures in
     let (named, in_time, later) = steps_in_time l.invariant o in
     let r = read_motion c.requires.ready.0 named shown in
-    let e = c.mark_sweeps.ensures ∙ ap (λ (ws : List Sweep). mark (site_of c.args.file.now) c.args.tug (swept_pairs ws l.here.tick.0) l.board) shown.sweeps in
+    let e = c.mark_sweeps.ensures ∙ ap (λ (ws : List Sweep). mark (site_of c.args.motions.now.file.bytes.now) c.args.tug (swept_pairs ws l.here.tick.0) l.board) shown.sweeps in
     marks l.invariant o _ e (next_move shown r.to in_time c.after_move-here.ensures) later
 
 pub returns-in-End : goal.returns-in-End
@@ -69,4 +68,4 @@ pub returns-in-Wrong : goal.returns-in-Wrong
 returns-in-Wrong c = absurd (never_wrong _ _ c.loop-n.invariant.laid (sym c.in-Wrong.is ∙ c.step_at.ensures))
 
 pub loop-n-init : goal.loop-n-init
-loop-n-init c = record { rest = refl; room = refl; laid = c.requires.first_value.0; known = c.requires.ready.2; in_time = c.requires.first_value.1 }
+loop-n-init c = record { rest = refl; room = refl; laid = c.requires.laid_in_time.0; known = c.requires.ready.1; in_time = c.requires.laid_in_time.1 }

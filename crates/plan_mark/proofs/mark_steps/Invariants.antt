@@ -6,7 +6,7 @@ use Rattle.plan_mark.proofs.MarkLaws.{Marking}
 use Rattle.plan_mark.proofs.mark_steps.Given as goal
 
 abbrev pub invariant-loop-n : goal.invariant-loop-n
-invariant-loop-n l = Marking l.file l.tug l.light l.first l.initial.here l.initial.board l.at l.here l.board
+invariant-loop-n l = Marking l.motions.file.bytes.now l.tug l.light l.first l.initial.here l.initial.board l.at l.here l.board
 
 abbrev pub decreases-loop-n : goal.decreases-loop-n
 decreases-loop-n l = length l.light - l.at

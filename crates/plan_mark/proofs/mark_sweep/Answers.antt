@@ -17,11 +17,12 @@ swept_ticks-ticks-requires c = let k = known c.requires.0 in
 
 pub mark_run-requires : goal.mark_run-requires
 mark_run-requires c = let s = c.requires.1 in
-    (known c.requires.0).row _ _ s.known (omega (arith, s.in_time, c.swept_ticks-ticks.ensures.1))
+    let k = known c.requires.0 in
+    (k.cell_on _ s.known, omega (arith, k.horizon, s.in_time, c.swept_ticks-ticks.ensures.1))
 
 pub returns : goal.returns
 returns c =
     let p = c.requires in
     let ticks = c.swept_ticks-ticks.ensures in
-    c.mark_run.ensures (site_of c.args.file.now) (known p.0).horizon
-    ∙ ap₂ (λ (x y : ℕ). mark (site_of c.args.file.now) c.args.tug (run_to c.args.w.cell x y) c.args.board.now) ticks.0 ticks.1
+    c.mark_run.ensures (site_of c.args.file.now.bytes.now) (known p.0).horizon
+    ∙ ap₂ (λ (x y : ℕ). mark (site_of c.args.file.now.bytes.now) c.args.tug (run_to c.args.w.cell x y) c.args.board.now) ticks.0 ticks.1
