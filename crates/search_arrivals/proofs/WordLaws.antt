@@ -1,13 +1,16 @@
--- Four words, narrowed down or stored one by one.
+-- Four words, narrowed down one by one or stored.
 -- Assumes nothing.
 use Prim.Native.Nat.{ℕ, ◌+◌, ◌-◌, ◌*◌, ◌/◌, ◌%◌, ◌≤◌, ◌<◌}
 use native.Mathlib.Omega.{arith}
-use mathlib.Core.Path.{◌≡◌, refl, ap, ◌∙◌, subst}
+use mathlib.Core.Path.{◌≡◌, refl, sym, ap, ◌∙◌}
 use mathlib.Core.Bool.{Bool, ◌&&◌}
 use mathlib.Core.List.{List}
 use lib.Bits.{bit_and, and_le_l}
 use lib.Dec.{ltb, eqb}
 use lib.ListN.{length, get_or, set, length-set, get_or-eq_default}
+use borrow.Rule.Slice.PartMut.{put_mid}
+use Rattle.std.specs.Simd.Lanes.{put_chunk}
+use Rattle.std.proofs.lemmas.Simd.{put_chunk_is, length-put_chunk, get_or-put_chunk_at, get_or-put_chunk_below, get_or-put_chunk_above}
 use lib.Seq.{get_or-set_same, get_or-set_other}
 use borrow.Author.Tests.{ltb-true, ltb-false, eqb-true, eqb-false}
 use Rattle.meaning.proofs.BasicsLaws.{decide}
@@ -15,7 +18,7 @@ use Rattle.search_sizes.specs.Sizes.{block_words, block_ticks, window_words, win
 use Rattle.search_ticks.specs.Bits.{bit, window_of}
 use Rattle.search_ticks.specs.Rows.{at, Words, Put}
 use Rattle.search_ticks.proofs.BitLaws.{bit_and_lem}
-use Rattle.search_ticks.proofs.RowLaws.{map_row, map_turn, map_end, window_at, put_done}
+use Rattle.search_ticks.proofs.RowLaws.{window_at}
 use Rattle.search_arrivals.specs.Arrivals.{Narrowed}
 
 -- ---- words that are narrowed down: those below i are, and the others are as before
@@ -72,24 +75,17 @@ narrowing_end tab x₀ x r back i fit few past n =
 
 -- ---- words that are stored
 
-unfoldable pub store_word : List ℕ → ℕ → ℕ → ℕ
-store_word x i w = get_or x i 0
-
-pub record Storing (x : List ℕ) (a : ℕ) (al₀ al : List ℕ) (i : ℕ) : Type 0 where
-  pub sized : length al ≡ length al₀
-  pub left : map_row (store_word x) a (block_words - i) i al ≡ map_row (store_word x) a block_words 0 al₀
-
-pub storing_start : (x : List ℕ) (a : ℕ) (al : List ℕ) → Storing x a al al 0
-storing_start x a al = record { sized = refl; left = refl }
-
-pub storing_turn : (x : List ℕ) (a : ℕ) (al₀ al : List ℕ) (i : ℕ) → i < block_words → Storing x a al₀ al i → Storing x a al₀ (set al (a + i) (get_or x i 0)) (i + 1)
-unfolding store_word
-storing_turn x a al₀ al i h s =
-    record { sized = length-set al (a + i) _ ∙ s.sized; left = map_turn (store_word x) a i al (map_row (store_word x) a block_words 0 al₀) h s.left }
-
-pub storing_end : (x al₀ al : List ℕ) (m i : ℕ) → m * block_words + block_words ≤ length al₀ → block_words ≤ i → i ≤ block_words → Storing x (m * block_words) al₀ al i → Put al₀ al (m * block_ticks) (at x)
-unfolding store_word at
-storing_end x al₀ al m i room past few s =
-    let place : m * block_words * 64 ≡ m * block_ticks = omega arith in
-    subst (λ (p : ℕ). Put al₀ al p (at x)) place
-    (put_done (store_word x) al₀ al (m * block_words) (at x) room (map_end (store_word x) (m * block_words) i al (map_row (store_word x) (m * block_words) block_words 0 al₀) past few s.left) (λ j h. refl))
+pub put_words : (al x ys : List ℕ) (m k : ℕ) → m * block_words + block_words ≤ length al → length x ≡ block_words → k ≡ length x → ys ≡ x
+    → Put al (put_mid (m * block_words) k al ys) (m * block_ticks) (at x)
+unfolding at
+put_words al x ys m k room sized wide is =
+    let stored : put_mid (m * block_words) k al ys ≡ put_chunk (m * block_words) al x = rw (wide, is) (sym (put_chunk_is (m * block_words) al x (omega arith))) in
+    rw stored (record {
+      here = λ i h.
+          let word : (m * block_ticks + i) / 64 ≡ m * block_words + i / 64 = omega arith in
+          let digit : (m * block_ticks + i) % 64 ≡ i % 64 = omega arith in
+          rw (word, digit, get_or-put_chunk_at (m * block_words) al x (i / 64) 0 (omega arith) (omega arith));
+      before = λ j h. rw (get_or-put_chunk_below (m * block_words) al x (j / 64) 0 (omega arith));
+      after = λ j h. rw (get_or-put_chunk_above (m * block_words) al x (j / 64) 0 (omega arith));
+      sized = length-put_chunk (m * block_words) al x;
+    })

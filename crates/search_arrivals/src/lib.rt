@@ -20,10 +20,8 @@ fn narrow(x: &mut [u64; BLOCK_WORDS], tab: &[u64], r: usize, back: usize)
 {
     let b = r * WINDOW_WORDS + (BLOCK_TICKS - back) / 64;
     let e = ((BLOCK_TICKS - back) % 64) as u64;
-    let mut i = 0;
-    while i < BLOCK_WORDS {
-        x[i] = x[i] & search_ticks::window(tab[b + i], tab[b + i + 1], e);
-        i += 1;
+    for i in 0..BLOCK_WORDS {
+        x[i] &= search_ticks::window(tab[b + i], tab[b + i + 1], e);
     }
 }
 
@@ -31,12 +29,12 @@ fn narrow(x: &mut [u64; BLOCK_WORDS], tab: &[u64], r: usize, back: usize)
 fn narrow_long(x: &mut [u64; BLOCK_WORDS], tab: &[u64], cells: usize, w: Sweep, span: usize)
     requires first_le_last { (w.first ≤ w.last) × ((w.last ≤ span) × (span ≤ span_limit)) }
     requires cell_lt_cells { (w.cell < cells) × ((cells ≤ cell_limit) × ((table_of (suc w.last - w.first) * cells + cells) * window_words < length tab.now)) }
-    requires bound { 4 ≤ w.last - w.first }
+    requires long { 4 ≤ w.last - w.first }
     ensures { (g : ℕ → ℕ → Bool) (tables b : ℕ) → table_of (suc w.last - w.first) < tables → Tables g cells tables b tab.now
         → Narrowed x.old x.new (λ i. ended (g w.cell) (suc w.last - w.first) (block_start b + i - (span - w.last))) }
 {
-    let first = w.first as usize;
-    let last = w.last as usize;
+    let first = usize::from(w.first);
+    let last = usize::from(w.last);
     let t = search_runs::table_of(last + 1 - first);
     let row = t * cells + w.cell;
     narrow(x, tab, row, span - last);
@@ -50,12 +48,12 @@ fn narrow_sweep(x: &mut [u64; BLOCK_WORDS], tab: &[u64], cells: usize, w: Sweep,
     ensures { (g : ℕ → ℕ → Bool) (tables b : ℕ) → table_of (suc w.last - w.first) < tables → Tables g cells tables b tab.now
         → Narrowed x.old x.new (λ i. ended (g w.cell) (suc w.last - w.first) (block_start b + i - (span - w.last))) }
 {
-    let size = (w.last - w.first) as usize;
+    let size = usize::from(w.last - w.first);
     if size < 4 {
-        narrow(x, tab, size * cells + w.cell, span - (w.last as usize));
-        return;
+        narrow(x, tab, size * cells + w.cell, span - usize::from(w.last));
+    } else {
+        narrow_long(x, tab, cells, w, span);
     }
-    narrow_long(x, tab, cells, w, span);
 }
 
 // Row m becomes x.
@@ -63,12 +61,8 @@ fn store(al: &mut [u64], m: usize, x: &[u64; BLOCK_WORDS])
     requires { m * block_words + block_words ≤ length al.old }
     ensures { Put al.old al.new (m * block_ticks) (at x.now) }
 {
-    let a = m * BLOCK_WORDS;
-    let mut i = 0;
-    while i < BLOCK_WORDS {
-        al[a + i] = x[i];
-        i += 1;
-    }
+    let start = m * BLOCK_WORDS;
+    al[start..start + BLOCK_WORDS].copy_from_slice(x);
 }
 
 // Row m: the ticks of the block at which a motion of that span may end whose `count` sweeps stand from `place` on.
@@ -89,17 +83,10 @@ pub fn arrivals_of(
     ensures by_index_2 { (g : ℕ → ℕ → Bool) (tables b : ℕ) → table_of (suc span) < tables → Tables g cells tables b tab.now
         → (i : ℕ) → i < block_ticks → at al.new (m * block_ticks + i) ≡ arrives g (sweeps_at sweeps.now place count) span (block_start b + i) }
 {
-    let mut x = [18446744073709551615u64; BLOCK_WORDS];
-    let mut i = 0;
-    while i < count {
-        narrow_sweep(
-            &mut x,
-            tab,
-            cells,
-            site_sweeps::read_sweep(sweeps, place, i),
-            span,
-        );
-        i += 1;
+    let mut x = [u64::MAX; BLOCK_WORDS];
+    for i in 0..count {
+        let sweep = site_sweeps::read_sweep(sweeps, place, i);
+        narrow_sweep(&mut x, tab, cells, sweep, span);
     }
     store(al, m, &x);
 }

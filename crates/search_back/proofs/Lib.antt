@@ -1,3 +1,4 @@
 pub mod HitLaws
+pub mod SceneLaws
 pub mod WalkLaws
 pub mod WordLaws

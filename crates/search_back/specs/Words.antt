@@ -1,4 +1,4 @@
--- The back pointer of a pair from the reached pairs, and which pairs are reached.
+-- The back pointer of a pair from the reached pairs, its word, and which pairs are reached.
 -- Assumes nothing.
 use Rattle.std.specs.Prelude.{ℕ, ◌+◌, ◌-◌, ◌≤◌, ◌≡◌, Bool, ◌&&◌, List, leb, eqb, length}
 use Rattle.std.proofs.Math.Option.{Option}
@@ -9,6 +9,14 @@ use Rattle.meaning.specs.Plan.{Node, node, wait, move, allowed}
 use Rattle.search_sizes.specs.Sizes.{block_ticks}
 use Rattle.search_ticks.specs.Rows.{has}
 use Rattle.search_ends.specs.Ends.{reached_at}
+use Rattle.search_back.specs.declared.Back.{Back}
+
+-- the word of a back pointer, as the table of the reached pairs has it
+abbrev pub word_of : Back → ℕ
+word_of Back.NotReached = 0
+word_of Back.Start = 1
+word_of Back.Wait = 2
+word_of (Back.Move m) = m + 3
 
 -- a wait of one tick ends in (s, t) and begins in the set
 unfoldable pub wait_hit : Site → Free → List ℕ → ℕ → ℕ → Bool

@@ -2,75 +2,64 @@
 #![tactic(auto)]
 
 ghost use Rattle.std.specs.Prelude.{◌≡◌, false, ℕ, ◌+◌, ◌*◌, ◌-◌, ◌≤◌, ◌<◌, length};
-ghost use Rattle.meaning.specs.Site.{site_of};
-ghost use Rattle.meaning.specs.Board.{free};
 ghost use Rattle.meaning.specs.Reach.{word_by, reach_word};
 ghost use Rattle.meaning.specs.Plan.{node};
-ghost use Rattle.site.specs.Ready.{Ready};
+ghost use Rattle.site.specs.Halls.{site_in, free_in};
 ghost use Rattle.search_sizes.specs.Sizes.{row_words};
-ghost use Rattle.search_site.specs.Arrays.{States, Motions};
-ghost use Rattle.search_site.specs.Decoded.{StatesDecoded, MotionsDecoded};
 ghost use Rattle.search_lists.specs.Lists.{Listed};
-ghost use Rattle.search_back.specs.Words.{wait_hit, move_hit, first_move, ReachedTo};
+ghost use Rattle.search_back.specs.Words.{word_of, wait_hit, move_hit, first_move, ReachedTo};
 
 use plan_steps::Node;
-use site::Sizes;
+use search_scene::Scene;
 use site_read::Motion;
 use time::Tick;
 
+// How a pair is reached.
+#[derive(Clone, Copy)]
+pub enum Back {
+    NotReached,
+    // it is the start
+    Start,
+    // by a wait of one tick
+    Wait,
+    // by this motion
+    Move(usize),
+}
+
 // Whether a one-tick wait from a reached pair ends in (s, t).
-fn wait_hit(
-    file: &[u8],
-    sizes: Sizes,
-    states: &[u16],
-    board: &[u8],
-    reached: &[u64],
-    s: usize,
-    t: usize,
-) -> bool
-    requires ready { Ready file.now (length board.now) sizes × (States sizes.states states.now × StatesDecoded file.now states.now) }
-    requires s_lt_states { (s < sizes.states) × ((1 ≤ t) × ((t ≤ sizes.horizon) × (sizes.states * row_words ≤ length reached.now))) }
-    ensures { result ≡ wait_hit (site_of file.now) (free (site_of file.now) board.now) reached.now s t }
+fn wait_hit(scene: &Scene<'_>, reached: &[u64], s: usize, t: usize) -> bool
+    requires { (s < scene.now.hall.sizes.states) × ((1 ≤ t) × ((t ≤ scene.now.hall.sizes.horizon) × (scene.now.hall.sizes.states * row_words ≤ length reached.now))) }
+    ensures { result ≡ wait_hit (site_in scene.now.hall) (free_in scene.now.hall) reached.now s t }
 {
-    let n = sizes.states;
-    if search_site::speed_of(states, n, s) != 0 {
+    let n = scene.hall.sizes.states;
+    if search_site::speed_of(scene.states, n, s) != 0 {
         return false;
     }
     if search_ticks::is_set(reached, s, t - 1) {
-        let cell = search_site::cell_of(states, n, s);
-        return board_ticks::run_free(board, sizes.horizon, sizes.margin, cell, t - 1, t);
+        let cell = search_site::cell_of(scene.states, n, s);
+        return board_ticks::ticks_of(&scene.hall, cell).run_free(t - 1, t);
     }
     false
 }
 
 // Whether motion m from a reached pair ends in (s, t).
-fn move_hit(
-    file: &[u8],
-    sizes: Sizes,
-    motions: &[u16],
-    board: &[u8],
-    reached: &[u64],
-    s: usize,
-    t: usize,
-    m: usize,
-) -> bool
-    requires ready { Ready file.now (length board.now) sizes × (Motions sizes.motions motions.now × MotionsDecoded file.now motions.now) }
-    requires m_lt_motions { (m < sizes.motions) × ((t ≤ sizes.horizon) × (sizes.states * row_words ≤ length reached.now)) }
-    ensures { result ≡ move_hit (site_of file.now) (free (site_of file.now) board.now) reached.now s t m }
+fn move_hit(scene: &Scene<'_>, reached: &[u64], s: usize, t: usize, m: usize) -> bool
+    requires { (m < scene.now.hall.sizes.motions) × ((t ≤ scene.now.hall.sizes.horizon) × (scene.now.hall.sizes.states * row_words ≤ length reached.now)) }
+    ensures { result ≡ move_hit (site_in scene.now.hall) (free_in scene.now.hall) reached.now s t m }
 {
-    let k = sizes.motions;
-    let to = search_site::to_of(motions, k, m);
+    let k = scene.hall.sizes.motions;
+    let to = search_site::to_of(scene.motions, k, m);
     if to != s {
         return false;
     }
-    let span = search_site::span_of(motions, k, m);
+    let span = search_site::span_of(scene.motions, k, m);
     if t < span {
         return false;
     }
-    let from = search_site::from_of(motions, k, m);
+    let from = search_site::from_of(scene.motions, k, m);
     if search_ticks::is_set(reached, from, t - span) {
-        let first = search_site::place_of(motions, k, m);
-        let count = search_site::count_of(motions, k, m);
+        let first = search_site::place_of(scene.motions, k, m);
+        let count = search_site::count_of(scene.motions, k, m);
         let motion = Motion {
             from,
             to,
@@ -82,70 +71,54 @@ fn move_hit(
             state: from,
             tick: Tick((t - span) as u32),
         };
-        return plan_steps::move_allowed(file, board, sizes, motion, a);
+        return plan_steps::move_allowed(&scene.hall, motion, a);
     }
     false
 }
 
-// 3 and the number of the lowest motion that ends in (s, t), or 0: the motions of the list of s.
-fn first_move(
-    file: &[u8],
-    sizes: Sizes,
-    motions: &[u16],
-    lists: &[u16],
-    board: &[u8],
-    reached: &[u64],
-    s: usize,
-    t: usize,
-) -> usize
-    requires ready { Ready file.now (length board.now) sizes × (Motions sizes.motions motions.now × MotionsDecoded file.now motions.now) }
-    requires s_lt_states { (s < sizes.states) × ((t ≤ sizes.horizon) × (sizes.states * row_words ≤ length reached.now)) }
-    requires listed { Listed 1 sizes.motions motions.now lists.now × (sizes.motions + sizes.states ≤ length lists.now) }
-    ensures { result ≡ word_by false (first_move (site_of file.now) (free (site_of file.now) board.now) reached.now s t) }
+// The lowest motion that ends in (s, t): one of the list of s.
+fn first_move(scene: &Scene<'_>, lists: &[u16], reached: &[u64], s: usize, t: usize) -> Back
+    requires s_lt_states { (s < scene.now.hall.sizes.states) × ((t ≤ scene.now.hall.sizes.horizon) × (scene.now.hall.sizes.states * row_words ≤ length reached.now)) }
+    requires listed { Listed 1 scene.now.hall.sizes.motions scene.now.motions.now lists.now × (scene.now.hall.sizes.motions + scene.now.hall.sizes.states ≤ length lists.now) }
+    ensures { word_of result ≡ word_by false (first_move (site_in scene.now.hall) (free_in scene.now.hall) reached.now s t) }
 {
-    let k = sizes.motions;
+    let k = scene.hall.sizes.motions;
     let mut m = search_lists::listed_at(lists, k + s);
     while m < k {
-        if move_hit(file, sizes, motions, board, reached, s, t, m) {
-            return m + 3;
+        if move_hit(scene, reached, s, t, m) {
+            return Back::Move(m);
         }
         let after = search_lists::listed_at(lists, m);
         if after <= m {
-            return 0;
+            return Back::NotReached;
         }
         m = after;
     }
-    0
+    Back::NotReached
 }
 
-// The word of (s, t): 0 not reached, 1 the start, 2 by a wait, 3 + m by motion m.
-pub fn word_at(
-    file: &[u8],
-    sizes: Sizes,
-    states: &[u16],
-    motions: &[u16],
+// How (s, t) is reached from the start at `tick`.
+pub fn back_at(
+    scene: &Scene<'_>,
     lists: &[u16],
-    board: &[u8],
     reached: &[u64],
     tick: usize,
     s: usize,
     t: usize,
-) -> usize
-    requires ready { Ready file.now (length board.now) sizes × (States sizes.states states.now × StatesDecoded file.now states.now) }
-    requires motions { Motions sizes.motions motions.now × (MotionsDecoded file.now motions.now × Listed 1 sizes.motions motions.now lists.now) }
-    requires states_in_bounds { sizes.motions + sizes.states ≤ length lists.now }
-    requires s_lt_states { (s < sizes.states) × ((tick ≤ t) × ((t ≤ sizes.horizon) × (sizes.states * row_words ≤ length reached.now))) }
-    ensures { (start : ℕ) → ReachedTo (site_of file.now) (free (site_of file.now) board.now) (node start tick) t reached.now
-        → result ≡ reach_word (site_of file.now) (free (site_of file.now) board.now) (node start tick) (t - tick) s }
+) -> Back
+    requires listed { Listed 1 scene.now.hall.sizes.motions scene.now.motions.now lists.now × (scene.now.hall.sizes.motions + scene.now.hall.sizes.states ≤ length lists.now) }
+    requires s_lt_states { (s < scene.now.hall.sizes.states) × ((tick ≤ t) × ((t ≤ scene.now.hall.sizes.horizon) × (scene.now.hall.sizes.states * row_words ≤ length reached.now))) }
+    ensures { (start : ℕ) → ReachedTo (site_in scene.now.hall) (free_in scene.now.hall) (node start tick) t reached.now
+        → word_of result ≡ reach_word (site_in scene.now.hall) (free_in scene.now.hall) (node start tick) (t - tick) s }
 {
     if tick < t {
-        if wait_hit(file, sizes, states, board, reached, s, t) {
-            return 2;
+        if wait_hit(scene, reached, s, t) {
+            return Back::Wait;
         }
-        return first_move(file, sizes, motions, lists, board, reached, s, t);
+        return first_move(scene, lists, reached, s, t);
     }
     if search_ticks::is_set(reached, s, t) {
-        return 1;
+        return Back::Start;
     }
-    0
+    Back::NotReached
 }

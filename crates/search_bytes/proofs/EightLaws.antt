@@ -1,13 +1,14 @@
 -- Bytes one after the other as one number, and the highest bit of each byte of it that is not 0.
 -- Assumes nothing.
 use Prim.Native.Nat.{ℕ, zero, suc, ◌+◌, ◌-◌, ◌*◌, ◌/◌, ◌%◌, ◌^◌, ◌≤◌, ◌<◌}
-use native.Mathlib.Nat.{add-zero, zero-add, suc-add, mul_assoc}
+use native.Mathlib.Nat.{zero-add}
 use native.Mathlib.Omega.{arith}
 use mathlib.Core.Path.{◌≡◌, refl, sym, ap, ap₂, ◌∙◌}
 use mathlib.Core.Bool.{Bool, true, false, cond, ◌&&◌, not, and-true, and-false}
-use mathlib.Core.List.{List}
-use lib.Bits.{bit_and, bit_or, and_le_r, and_block, or_block, or_lt, or_shifted_r}
-use lib.Pow.{shl_exact, pow-add, low, high}
+use mathlib.Core.List.{List, [], ◌∷◌}
+use Rattle.std.specs.Int.{w64, from_le_bytes}
+use lib.Bits.{bit_and, bit_or, and_le_r, and_block, or_block, or_lt}
+use lib.Pow.{low, high}
 use lib.Dec.{ltb, eqb}
 use lib.ListN.{get_or}
 use borrow.Author.Tests.{ltb-true, ltb-false, eqb-true, eqb-false}
@@ -21,40 +22,21 @@ use Rattle.search_bytes.specs.Words.{word_of_bytes, held_of}
 abbrev pub AreBytes : List ℕ → Type 0
 AreBytes b = (i : ℕ) → get_or b i 0 < 256
 
--- ---- two runs of bytes joined
+-- ---- eight bytes as one number
 
--- eight more bits for each byte
-width : (n : ℕ) → 2 ^ (8 * suc n) ≡ 2 ^ (8 * n) * 256
-width n = let e : 8 * suc n ≡ 8 * n + 8 = omega arith in ap (λ (x : ℕ). 2 ^ x) e ∙ pow-add 2 (8 * n) 8
-
-pub word_one : (b : List ℕ) (p : ℕ) → get_or b p 0 ≡ word_of_bytes b p 1
+pub word_eight : (b : List ℕ) (p : ℕ)
+    → from_le_bytes w64 (get_or b p 0 ∷ get_or b (p + 1) 0 ∷ get_or b (p + 2) 0 ∷ get_or b (p + 3) 0 ∷ get_or b (p + 4) 0 ∷ get_or b (p + 5) 0 ∷ get_or b (p + 6) 0 ∷ get_or b (p + 7) 0 ∷ [])
+    ≡ word_of_bytes b p 8
 unfolding word_of_bytes
-word_one b p = omega arith
-
-module _ (b : List ℕ) (bytes : AreBytes b) where
-  word_small : (n p : ℕ) → word_of_bytes b p n < 2 ^ (8 * n)
-  unfolding word_of_bytes
-  word_small zero p = omega arith
-  word_small (suc n) p = omega (arith, word_small n (suc p), bytes p, width n)
-
-  word_add : (m n p : ℕ) → word_of_bytes b p (m + n) ≡ word_of_bytes b (p + m) n * 2 ^ (8 * m) + word_of_bytes b p m
-  unfolding word_of_bytes
-  word_add zero n p = rw (zero-add n, add-zero p) (omega arith)
-  word_add (suc m) n p =
-      let q : suc p + m ≡ p + suc m = omega arith in
-      let w : ℕ = word_of_bytes b (p + suc m) n in
-      let later : word_of_bytes b (suc p) (m + n) ≡ w * 2 ^ (8 * m) + word_of_bytes b (suc p) m =
-      word_add m n (suc p) ∙ ap (λ (x : ℕ). word_of_bytes b x n * 2 ^ (8 * m) + word_of_bytes b (suc p) m) q in
-      let high : w * 2 ^ (8 * suc m) ≡ w * 2 ^ (8 * m) * 256 = ap (λ (x : ℕ). w * x) (width m) ∙ sym (mul_assoc w (2 ^ (8 * m)) 256) in
-      ap (λ (k : ℕ). word_of_bytes b p k) (suc-add m n) ∙ omega (arith, later, high)
-
-  pub word_join : (m n p x y : ℕ) → m + n ≤ 8 → x ≡ word_of_bytes b p m → y ≡ word_of_bytes b (p + m) n
-      → bit_or x (y * 2 ^ (8 * m) % 2 ^ 64) ≡ word_of_bytes b p (m + n)
-  word_join m n p x y h e f =
-      ap₂ (λ (u v : ℕ). bit_or u (v * 2 ^ (8 * m) % 2 ^ 64)) e f
-      ∙ ap (λ (v : ℕ). bit_or (word_of_bytes b p m) v) (shl_exact (8 * n) (8 * m) 64 (word_small n (p + m)) (omega arith))
-      ∙ or_shifted_r (word_of_bytes b (p + m) n) (8 * m) (word_of_bytes b p m) (word_small m p)
-      ∙ sym (word_add m n p)
+word_eight b p =
+    let e₁ : p + 1 ≡ suc p = omega arith in
+    let e₂ : p + 2 ≡ suc (suc p) = omega arith in
+    let e₃ : p + 3 ≡ suc (suc (suc p)) = omega arith in
+    let e₄ : p + 4 ≡ suc (suc (suc (suc p))) = omega arith in
+    let e₅ : p + 5 ≡ suc (suc (suc (suc (suc p)))) = omega arith in
+    let e₆ : p + 6 ≡ suc (suc (suc (suc (suc (suc p))))) = omega arith in
+    let e₇ : p + 7 ≡ suc (suc (suc (suc (suc (suc (suc p)))))) = omega arith in
+    rw (e₁, e₂, e₃, e₄, e₅, e₆, e₇) (omega arith)
 
 -- ---- the bytes that are not 0
 

@@ -9,13 +9,14 @@ use mathlib.Core.Bool.{Bool, true, false, cond, ◌&&◌, ◌||◌, not, and_com
 use mathlib.Core.List.{List, [], ◌∷◌}
 use lib.Bits.{bit_and, bit_or, bit_xor, and_le_r, or_lt, xor_lt}
 use lib.Dec.{ltb, leb, eqb}
-use lib.ListN.{get_or}
+use lib.ListN.{length, get_or}
 use borrow.Author.Tests.{ltb-true, ltb-false, leb-true, leb-false, le-leb, lt-leb, eqb-true, eqb-false}
 use Rattle.meaning.specs.Basics.{every, all_from}
 use Rattle.meaning.proofs.BasicsLaws.{decide, all_from_at, every_at}
 use Rattle.search_ticks.specs.Bits.{odd, bit}
 use Rattle.search_ticks.proofs.BitLaws.{even_of, odd_of, digits, xor, bit_and_lem, bit_or_lem, bit_xor_lem, bit_past, bit_shr, bit_rem, bit_scaled, bit_scaled_low}
 use Rattle.search_ticks.proofs.RowLaws.{zero_bit}
+use Rattle.search_ticks.proofs.SetLaws.{full, not_is_xor}
 use Rattle.search_bytes.specs.Words.{word_of_bytes, held_of, exchanged, turned_of, free_word}
 use Rattle.search_bytes.proofs.EightLaws.{AreBytes, held_bit}
 use Rattle.search_bytes.proofs.WordLaws.{free_small, free_bits}
@@ -112,19 +113,19 @@ module _ (k mask x : ℕ) where
 -- ---- three exchanges turn the square of eight rows of eight bits
 
 abbrev first : ℕ → ℕ
-first i = source 28 4042322160 i
+first i = source 28 0xf0f0_f0f0 i
 
 abbrev second : ℕ → ℕ
-second i = source 14 225176545447116 i
+second i = source 14 0x0000_cccc_0000_cccc i
 
 abbrev third : ℕ → ℕ
-third i = source 7 47851476196393130 i
+third i = source 7 0x00aa_00aa_00aa_00aa i
 
 right : ℕ → Bool
 right i =
     every
-    (clear 28 4042322160 i ∷ ltb (first i) 64 ∷ clear 14 225176545447116 (first i) ∷ ltb (second (first i)) 64
-    ∷ clear 7 47851476196393130 (second (first i)) ∷ eqb (third (second (first i))) (8 * (i % 8) + i / 8) ∷ bit 18446744073709551615 i ∷ [])
+    (clear 28 0xf0f0_f0f0 i ∷ ltb (first i) 64 ∷ clear 14 0x0000_cccc_0000_cccc (first i) ∷ ltb (second (first i)) 64
+    ∷ clear 7 0x00aa_00aa_00aa_00aa (second (first i)) ∷ eqb (third (second (first i))) (8 * (i % 8) + i / 8) ∷ bit full i ∷ [])
 
 all_right : all_from right 0 64 ≡ true
 unfolding right every bit odd
@@ -137,15 +138,15 @@ module _ (i : ℕ) (h : i < 64) where
   turn_bit : (x : ℕ) → bit (turned_of x) i ≡ bit x (8 * (i % 8) + i / 8)
   unfolding turned_of right
   turn_bit x =
-      exchange_bit 28 4042322160 (exchanged 14 225176545447116 (exchanged 7 47851476196393130 x)) i h (every_at _ right_at 0)
-      ∙ exchange_bit 14 225176545447116 (exchanged 7 47851476196393130 x) (first i) (ltb-true _ 64 (every_at _ right_at 1)) (every_at _ right_at 2)
-      ∙ exchange_bit 7 47851476196393130 x (second (first i)) (ltb-true _ 64 (every_at _ right_at 3)) (every_at _ right_at 4)
+      exchange_bit 28 0xf0f0_f0f0 (exchanged 14 0x0000_cccc_0000_cccc (exchanged 7 0x00aa_00aa_00aa_00aa x)) i h (every_at _ right_at 0)
+      ∙ exchange_bit 14 0x0000_cccc_0000_cccc (exchanged 7 0x00aa_00aa_00aa_00aa x) (first i) (ltb-true _ 64 (every_at _ right_at 1)) (every_at _ right_at 2)
+      ∙ exchange_bit 7 0x00aa_00aa_00aa_00aa x (second (first i)) (ltb-true _ 64 (every_at _ right_at 3)) (every_at _ right_at 4)
       ∙ ap (bit x) (eqb-true _ _ (every_at _ right_at 5))
 
   -- all 64 bits the other way
-  flip_bit : (x : ℕ) → bit (bit_xor x 18446744073709551615) i ≡ not (bit x i)
+  flip_bit : (x : ℕ) → bit (bit_xor x full) i ≡ not (bit x i)
   unfolding right
-  flip_bit x = bit_xor_lem i x 18446744073709551615 ∙ ap (xor (bit x i)) (every_at _ right_at 6) ∙ other (bit x i)
+  flip_bit x = bit_xor_lem i x full ∙ ap (xor (bit x i)) (every_at _ right_at 6) ∙ other (bit x i)
     where
       other : (b : Bool) → xor b true ≡ not b
       other true = refl
@@ -153,62 +154,62 @@ module _ (i : ℕ) (h : i < 64) where
 
 -- ---- the loop: eight bytes a turn
 
-unfoldable pub gathered : List ℕ → ℕ → ℕ → ℕ
-gathered b p zero = 0
-gathered b p (suc j) = bit_or (gathered b p j / 2 ^ 1) (held_of (word_of_bytes b (p + 8 * j) 8))
+unfoldable pub gathered : List ℕ → ℕ → ℕ
+gathered b zero = 0
+gathered b (suc j) = bit_or (gathered b j / 2 ^ 1) (held_of (word_of_bytes b (8 * j) 8))
 
-pub gathered_none : (b : List ℕ) (p : ℕ) → 0 ≡ gathered b p 0
+pub gathered_none : (b : List ℕ) → 0 ≡ gathered b 0
 unfolding gathered
-gathered_none b p = refl
+gathered_none b = refl
 
-pub gathered_more : (b : List ℕ) (p j x y z : ℕ) → x ≡ gathered b p j → y ≡ word_of_bytes b (p + 8 * j) 8 → z ≡ held_of y
-    → bit_or (x / 2 ^ 1) z ≡ gathered b p (j + 1)
+pub gathered_more : (b : List ℕ) (j x y z : ℕ) → x ≡ gathered b j → y ≡ word_of_bytes b (8 * j) 8 → z ≡ held_of y
+    → bit_or (x / 2 ^ 1) z ≡ gathered b (j + 1)
 unfolding gathered
-gathered_more b p j x y z e f g = rw (add-one j, e, g, f)
+gathered_more b j x y z e f g = rw (add-one j, e, g, f)
 
-gathered_small : (b : List ℕ) (p j : ℕ) → gathered b p j < 2 ^ 64
+gathered_small : (b : List ℕ) (j : ℕ) → gathered b j < 2 ^ 64
 unfolding gathered held_of
-gathered_small b p zero = omega arith
-gathered_small b p (suc j) =
-    let w : ℕ = word_of_bytes b (p + 8 * j) 8 in
-    or_lt 64 (gathered b p j / 2 ^ 1) (held_of w) (omega (arith, gathered_small b p j))
-    (omega (arith, and_le_r (bit_or (bit_and w 9187201950435737471 + 9187201950435737471) w) 9259542123273814144))
+gathered_small b zero = omega arith
+gathered_small b (suc j) =
+    let w : ℕ = word_of_bytes b (8 * j) 8 in
+    or_lt 64 (gathered b j / 2 ^ 1) (held_of w) (omega (arith, gathered_small b j))
+    (omega (arith, and_le_r (bit_or (bit_and w 0x7f7f_7f7f_7f7f_7f7f + 0x7f7f_7f7f_7f7f_7f7f) w) 0x8080_8080_8080_8080))
 
-module _ (b : List ℕ) (bytes : AreBytes b) (p : ℕ) where
+module _ (b : List ℕ) (bytes : AreBytes b) where
   -- n is at least 8, and byte q of the eight from 8 * (n - 8) on is not 0
   came : ℕ → ℕ → Bool
-  came n q = leb 8 n && not (eqb (get_or b (p + 8 * (n - 8) + q) 0) 0)
+  came n q = leb 8 n && not (eqb (get_or b (8 * (n - 8) + q) 0) 0)
 
   came_soon : (n q : ℕ) → n < 8 → came n q ≡ false
   unfolding came
-  came_soon n q h = ap (λ (t : Bool). t && not (eqb (get_or b (p + 8 * (n - 8) + q) 0) 0)) (lt-leb 8 n h)
+  came_soon n q h = ap (λ (t : Bool). t && not (eqb (get_or b (8 * (n - 8) + q) 0) 0)) (lt-leb 8 n h)
 
-  came_late : (n q : ℕ) → 8 ≤ n → came n q ≡ not (eqb (get_or b (p + 8 * (n - 8) + q) 0) 0)
+  came_late : (n q : ℕ) → 8 ≤ n → came n q ≡ not (eqb (get_or b (8 * (n - 8) + q) 0) 0)
   unfolding came
-  came_late n q h = ap (λ (t : Bool). t && not (eqb (get_or b (p + 8 * (n - 8) + q) 0) 0)) (le-leb 8 n h)
+  came_late n q h = ap (λ (t : Bool). t && not (eqb (get_or b (8 * (n - 8) + q) 0) 0)) (le-leb 8 n h)
 
   -- the rows that have come stand one bit lower after each turn
-  gathered_bit : (j i : ℕ) → j ≤ 8 → i < 64 → bit (gathered b p j) i ≡ came (i % 8 + j) (i / 8)
+  gathered_bit : (j i : ℕ) → j ≤ 8 → i < 64 → bit (gathered b j) i ≡ came (i % 8 + j) (i / 8)
   unfolding gathered
   gathered_bit zero i few h = zero_bit i ∙ sym (came_soon (i % 8 + 0) (i / 8) (omega arith))
   gathered_bit (suc j) i few h =
-      bit_or_lem i (gathered b p j / 2 ^ 1) (held_of (word_of_bytes b (p + 8 * j) 8))
-      ∙ ap₂ ◌||◌ (bit_shr 1 i (gathered b p j)) (held_bit b bytes (p + 8 * j) i h)
+      bit_or_lem i (gathered b j / 2 ^ 1) (held_of (word_of_bytes b (8 * j) 8))
+      ∙ ap₂ ◌||◌ (bit_shr 1 i (gathered b j)) (held_bit b bytes (8 * j) i h)
       ∙ decide (eqb (i % 8) 7)
       (λ e.
       let last : i % 8 ≡ 7 = eqb-true (i % 8) 7 e in
-      let place : p + 8 * j + i / 8 ≡ p + 8 * (i % 8 + suc j - 8) + i / 8 = omega arith in
-      let none : bit (gathered b p j) (1 + i) ≡ false =
+      let place : 8 * j + i / 8 ≡ 8 * (i % 8 + suc j - 8) + i / 8 = omega arith in
+      let none : bit (gathered b j) (1 + i) ≡ false =
       decide (ltb (1 + i) 64)
       (λ u. gathered_bit j (1 + i) (omega arith) (ltb-true (1 + i) 64 u) ∙ came_soon ((1 + i) % 8 + j) ((1 + i) / 8) (omega arith))
-      (λ u. bit_past 64 (1 + i) (gathered b p j) (gathered_small b p j) (ltb-false (1 + i) 64 u)) in
-      ap₂ (λ (s t : Bool). s || t && not (eqb (get_or b (p + 8 * j + i / 8) 0) 0)) none e
+      (λ u. bit_past 64 (1 + i) (gathered b j) (gathered_small b j) (ltb-false (1 + i) 64 u)) in
+      ap₂ (λ (s t : Bool). s || t && not (eqb (get_or b (8 * j + i / 8) 0) 0)) none e
       ∙ ap (λ (q : ℕ). not (eqb (get_or b q 0) 0)) place ∙ sym (came_late (i % 8 + suc j) (i / 8) (omega arith)))
       (λ e.
       let other : i % 8 ≡ 7 → ⊥ = eqb-false (i % 8) 7 e in
       let digit : (1 + i) % 8 + j ≡ i % 8 + suc j = omega arith in
       let place : (1 + i) / 8 ≡ i / 8 = omega arith in
-      ap₂ (λ (s t : Bool). s || t && not (eqb (get_or b (p + 8 * j + i / 8) 0) 0))
+      ap₂ (λ (s t : Bool). s || t && not (eqb (get_or b (8 * j + i / 8) 0) 0))
       (gathered_bit j (1 + i) (omega arith) (omega arith) ∙ ap₂ came digit place) e
       ∙ or-false (came (i % 8 + suc j) (i / 8)))
 
@@ -218,27 +219,28 @@ module _ (b : List ℕ) (bytes : AreBytes b) (p : ℕ) where
   high_part : (r q : ℕ) → q < 8 → (8 * r + q) / 8 ≡ r
   high_part r q h = omega arith
 
-  turned_bit : (i : ℕ) → i < 64 → bit (turned_of (gathered b p 8)) i ≡ not (eqb (get_or b (p + i) 0) 0)
+  turned_bit : (i : ℕ) → i < 64 → bit (turned_of (gathered b 8)) i ≡ not (eqb (get_or b i 0) 0)
   turned_bit i h =
       let from : ℕ = 8 * (i % 8) + i / 8 in
       let digit : from % 8 ≡ i / 8 = low_part (i % 8) (i / 8) (omega arith) in
       let row : from / 8 ≡ i % 8 = high_part (i % 8) (i / 8) (omega arith) in
-      let place : p + 8 * (from % 8 + 8 - 8) + from / 8 ≡ p + i = omega arith in
-      turn_bit i h (gathered b p 8)
+      let place : 8 * (from % 8 + 8 - 8) + from / 8 ≡ i = omega arith in
+      turn_bit i h (gathered b 8)
       ∙ gathered_bit 8 from (omega arith) (omega arith)
       ∙ came_late (from % 8 + 8) (from / 8) (omega arith)
       ∙ ap (λ (q : ℕ). not (eqb (get_or b q 0) 0)) place
 
-  pub gathered_all : (j x y : ℕ) → 8 ≤ j → j ≤ 8 → x ≡ gathered b p j → y ≡ turned_of x → y < 2 ^ 64
-      → bit_xor y 18446744073709551615 ≡ free_word b p 64
-  gathered_all j x y most few e f fits =
+  pub gathered_all : (j x y : ℕ) → length b ≡ 64 → 8 ≤ j → j ≤ 8 → x ≡ gathered b j → y ≡ turned_of x → y < 2 ^ 64
+      → full - y ≡ free_word b
+  gathered_all j x y sized most few e f fits =
       let all : j ≡ 8 = omega arith in
-      let is : y ≡ turned_of (gathered b p 8) = f ∙ ap turned_of (e ∙ ap (gathered b p) all) in
-      same_bits 64 (bit_xor y 18446744073709551615) (free_word b p 64)
-      (xor_lt 64 y 18446744073709551615 fits (omega arith))
-      (free_small b 64 p)
+      let is : y ≡ turned_of (gathered b 8) = f ∙ ap turned_of (e ∙ ap (gathered b) all) in
+      not_is_xor y fits
+      ∙ same_bits 64 (bit_xor y full) (free_word b)
+      (xor_lt 64 y full fits (omega arith))
+      (rw sized at (free_small b))
       (λ i h.
       flip_bit i h y
       ∙ ap not (ap (λ (n : ℕ). bit n i) is ∙ turned_bit i h)
-      ∙ not-not (eqb (get_or b (p + i) 0) 0)
-      ∙ sym (free_bits b 64 p i h))
+      ∙ not-not (eqb (get_or b i 0) 0)
+      ∙ sym (free_bits b i (omega arith)))

@@ -1,80 +1,60 @@
 // The board's bytes as words of bits, set where the byte is 0.
 #![tactic(auto)]
 
-ghost use Rattle.std.specs.Prelude.{◌≡◌, ◌+◌, ◌≤◌, ◌<◌, length};
-ghost use Rattle.search_bytes.specs.Words.{free_bit, free_word, ZeroFrom, word_of_bytes, held_of, exchanged, turned_of};
+ghost use Rattle.std.specs.Prelude.{◌≡◌, ◌+◌, ◌≤◌, ◌<◌, length, fold, bit_or};
+ghost use Rattle.search_bytes.specs.Words.{free_bit, free_word, word_of_bytes, held_of, exchanged, turned_of};
 
 fn free_bit(b: u8) -> u64
     ensures value { result ≡ free_bit b }
     ensures upper_bound { result ≤ 1 }
 {
-    if board_sorts::is_free_byte(b) { 1 } else { 0 }
+    u64::from(board_sorts::is_free_byte(b))
 }
 
-// The n bytes of the board from `start` on as bits: set where the byte is 0.
-fn free_bits(board: &[u8], start: usize, n: usize) -> u64
-    requires { (n ≤ 64) × (start + n ≤ length board.now) }
-    ensures { result ≡ free_word board.now start n }
+// The bytes as bits: set where the byte is 0.
+fn free_bits(bytes: &[u8]) -> u64
+    requires { length bytes.now ≤ 64 }
+    ensures { result ≡ free_word bytes.now }
 {
     let mut word: u64 = 0;
-    let mut left = n;
-    while 0 < left {
-        left -= 1;
-        word = word * 2 + free_bit(board[start + left]);
+    for i in (0..bytes.len()).rev() {
+        word = word * 2 + free_bit(bytes[i]);
     }
     word
 }
 
-// The union of the 64 bytes of the board from `start` on: 0 only if each byte is 0.
-fn bytes_union(board: &[u8], start: usize) -> u8
-    requires { start + 64 ≤ length board.now }
-    ensures { result ≡ 0 → ZeroFrom board.now start 64 }
+// The union of 64 bytes: 0 only if each byte is 0. It reads all of them, with no early exit, so that the compiler takes many at once.
+fn bytes_union(bytes: &[u8; 64]) -> u8
+    ensures { result ≡ fold bit_or 0 bytes.now }
 {
-    let mut all: u8 = 0;
-    let mut i = 0;
-    while i < 64 {
-        all = all | board[start + i];
-        i += 1;
-    }
-    all
+    bytes.iter().fold(0, |all, byte| all | byte)
 }
 
 // ---- 64 bytes at once, eight at a time
 
-fn wide(b: u8) -> u64
-    ensures { (result ≡ b) × (result < 256) }
+// The eight bytes from `p` on as one number, the first one lowest.
+fn load_eight(bytes: &[u8; 64], p: usize) -> u64
+    requires { p + 8 ≤ 64 }
+    ensures { result ≡ word_of_bytes bytes.now p 8 }
 {
-    b as u64
-}
-
-// Two, four and eight bytes from `p` on as one number, the first one lowest.
-fn load_two(board: &[u8], p: usize) -> u64
-    requires { p + 2 ≤ length board.now }
-    ensures { result ≡ word_of_bytes board.now p 2 }
-{
-    wide(board[p]) | (wide(board[p + 1]) << 8)
-}
-
-fn load_four(board: &[u8], p: usize) -> u64
-    requires { p + 4 ≤ length board.now }
-    ensures { result ≡ word_of_bytes board.now p 4 }
-{
-    load_two(board, p) | (load_two(board, p + 2) << 16)
-}
-
-fn load_eight(board: &[u8], p: usize) -> u64
-    requires { p + 8 ≤ length board.now }
-    ensures { result ≡ word_of_bytes board.now p 8 }
-{
-    load_four(board, p) | (load_four(board, p + 4) << 32)
+    u64::from_le_bytes([
+        bytes[p],
+        bytes[p + 1],
+        bytes[p + 2],
+        bytes[p + 3],
+        bytes[p + 4],
+        bytes[p + 5],
+        bytes[p + 6],
+        bytes[p + 7],
+    ])
 }
 
 // The highest bit of each byte of x that is not 0.
 fn held_eight(x: u64) -> u64
     ensures { result ≡ held_of x }
 {
-    let low: u64 = 9187201950435737471;
-    (((x & low) + low) | x) & 9259542123273814144
+    let low: u64 = 0x7f7f_7f7f_7f7f_7f7f;
+    (((x & low) + low) | x) & 0x8080_8080_8080_8080
 }
 
 // Exchanges the bits of x that the mask has with those that stand k higher.
@@ -90,35 +70,32 @@ fn exchange(x: u64, k: u64, mask: u64) -> u64
 fn turn(x: u64) -> u64
     ensures { result ≡ turned_of x }
 {
-    let y = exchange(x, 7, 47851476196393130);
-    let z = exchange(y, 14, 225176545447116);
-    exchange(z, 28, 4042322160)
+    let y = exchange(x, 7, 0x00aa_00aa_00aa_00aa);
+    let z = exchange(y, 14, 0x0000_cccc_0000_cccc);
+    exchange(z, 28, 0xf0f0_f0f0)
 }
 
-// The 64 bytes of the board from `start` on as bits: set where the byte is 0.
-fn free_all(board: &[u8], start: usize) -> u64
-    requires { start + 64 ≤ length board.now }
-    ensures { result ≡ free_word board.now start 64 }
+// The same bits as `free_bits` gives.
+fn free_all(bytes: &[u8; 64]) -> u64
+    ensures { result ≡ free_word bytes.now }
 {
     let mut x: u64 = 0;
-    let mut j = 0;
-    while j < 8 {
-        x = (x >> 1) | held_eight(load_eight(board, start + 8 * j));
-        j += 1;
+    for j in 0..8 {
+        x = (x >> 1) | held_eight(load_eight(bytes, 8 * j));
     }
-    turn(x) ^ 18446744073709551615
+    !turn(x)
 }
 
-// The same bits as `free_bits`: most boards have many words of free ticks alone.
-pub fn free_word(board: &[u8], start: usize, n: usize) -> u64
-    requires { (n ≤ 64) × (start + n ≤ length board.now) }
-    ensures { result ≡ free_word board.now start n }
+// At most 64 bytes of the board as bits: set where the byte is 0. Most boards have many words of free ticks alone.
+pub fn free_word(bytes: &[u8]) -> u64
+    requires { length bytes.now ≤ 64 }
+    ensures { result ≡ free_word bytes.now }
 {
-    if n < 64 {
-        return free_bits(board, start, n);
+    let Some(all) = bytes.first_chunk::<64>() else {
+        return free_bits(bytes);
+    };
+    if bytes_union(all) == 0 {
+        return u64::MAX;
     }
-    if bytes_union(board, start) == 0 {
-        return 18446744073709551615;
-    }
-    free_all(board, start)
+    free_all(all)
 }

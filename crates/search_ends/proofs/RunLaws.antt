@@ -3,19 +3,20 @@
 use Prim.Native.Nat.{ℕ, zero, suc, ◌+◌, ◌-◌, ◌≤◌, ◌<◌}
 use native.Mathlib.Omega.{arith}
 use mathlib.Core.Path.{◌≡◌, refl, sym, ap, ap₂, ◌∙◌}
-use mathlib.Core.Bool.{Bool, true, cond}
+use mathlib.Core.Bool.{Bool, true, false, cond}
 use mathlib.Core.List.{List}
 use lib.Dec.{ltb, eqb}
-use lib.ListN.{length, get_or, set, replicate, length-set, length-replicate}
+use lib.ListN.{length, get_or, set, length-set}
 use lib.Seq.{get_or-set_same, get_or-set_other}
 use borrow.Author.Tests.{lt-ltb, ltb-true, ltb-false, eqb-true, eqb-false}
 use Rattle.meaning.specs.Site.{Site, cell_of}
-use Rattle.meaning.specs.Board.{Free, free}
+use Rattle.meaning.specs.Board.{Free}
 use Rattle.meaning.specs.Plan.{node, can_unload}
 use Rattle.meaning.specs.ValidPlans.{Unloads}
 use Rattle.meaning.proofs.BasicsLaws.{decide, same_test}
 use Rattle.meaning.proofs.PlanLaws.{can_unload_lem, unload_can}
 use Rattle.search_sizes.specs.Sizes.{ticks}
+use Rattle.search_ends.specs.Ends.{EndsRight}
 
 -- how many of the n ticks from t on are free without a gap
 unfoldable pub free_run : (ℕ → Bool) → ℕ → ℕ → ℕ
@@ -79,65 +80,45 @@ unload_run site f goal dwell t early =
 -- ---- the loop: the ticks from t on have been looked at
 
 -- the run from t on, and the ends from t on, where these are the free ticks of the cell
-pub record Told (frees : ℕ → Bool) (horizon dwell : ℕ) (ends : List ℕ) (t run : ℕ) : Type 0 where
-  pub run_is : run ≡ free_run frees t (horizon + 1 - t)
-  pub ends_are : (x : ℕ) → t ≤ x → x ≤ horizon → get_or ends x 0 ≡ cond (ltb dwell (free_run frees x (horizon + 1 - x))) 1 0
-
-pub record Looked (board : List ℕ) (horizon margin cell tick dwell : ℕ) (ends : List ℕ) (t run : ℕ) : Type 0 where
+pub record Looked (frees : ℕ → Bool) (horizon tick dwell : ℕ) (ends : List Bool) (t run : ℕ) : Type 0 where
   pub late : tick ≤ t
   pub early : t ≤ horizon + 1
-  pub short : run ≤ horizon + 1 - t
   pub sized : length ends ≡ ticks
-  pub told : (site : Site) → site.horizon ≡ horizon → site.margin ≡ margin → cell < site.cells → Told (free site board cell) horizon dwell ends t run
+  pub run_is : run ≡ free_run frees t (horizon + 1 - t)
+  pub ends_are : (x : ℕ) → t ≤ x → x ≤ horizon → get_or ends x false ≡ ltb dwell (free_run frees x (horizon + 1 - x))
 
-module _ (board : List ℕ) (horizon margin cell tick dwell : ℕ) where
-  pub looked_from : (ends : List ℕ) → length ends ≡ ticks → tick ≤ horizon → Looked board horizon margin cell tick dwell ends (horizon + 1) 0
+module _ (frees : ℕ → Bool) (horizon tick dwell : ℕ) where
+  pub looked_from : (ends : List Bool) → length ends ≡ ticks → tick ≤ horizon → Looked frees horizon tick dwell ends (horizon + 1) 0
   unfolding free_run
   looked_from ends sized in_time =
       let none : horizon + 1 - (horizon + 1) ≡ 0 = omega arith in
-      record {
-        late = omega arith;
-        early = omega arith;
-        short = omega arith;
-        sized = sized;
-        told = λ site same spaced known. record { run_is = rw none refl; ends_are = λ x lo hi. absurd (omega arith) };
-      }
+      record { late = omega arith; early = omega arith; sized = sized; run_is = rw none refl; ends_are = λ x lo hi. absurd (omega arith) }
 
-  pub looked_none : tick ≤ horizon → Looked board horizon margin cell tick dwell (replicate ticks 0) (horizon + 1) 0
-  looked_none in_time = looked_from (replicate ticks 0) (length-replicate {A = ℕ} ticks 0) in_time
+  pub looked_short : (ends : List Bool) (t run : ℕ) → Looked frees horizon tick dwell ends t run → run ≤ horizon + 1
+  looked_short ends t run g = omega (arith, g.run_is, run_fits frees t (horizon + 1 - t))
 
-  pub looked_more : (ends : List ℕ) (t run next end : ℕ) → tick < t → horizon < ticks
-      → ((site : Site) → site.horizon ≡ horizon → site.margin ≡ margin → cell < site.cells → next ≡ cond (free site board cell (t - 1)) (run + 1) 0)
-      → next ≤ run + 1 → end ≡ cond (ltb dwell next) 1 0
-      → Looked board horizon margin cell tick dwell ends t run → Looked board horizon margin cell tick dwell (set ends (t - 1) end) (t - 1) next
-  looked_more ends t run next end more room is_run small is_end g =
+  pub looked_more : (ends : List Bool) (t run next : ℕ) → tick < t → horizon < ticks → next ≡ cond (frees (t - 1)) (run + 1) 0
+      → Looked frees horizon tick dwell ends t run → Looked frees horizon tick dwell (set ends (t - 1) (ltb dwell next)) (t - 1) next
+  looked_more ends t run next more room is g =
       let early = g.early in
-      let short = g.short in
       let size = g.sized in
+      let is_run : next ≡ free_run frees (t - 1) (horizon + 1 - (t - 1)) = is ∙ run_earlier frees horizon t run (omega arith) early g.run_is in
       record {
         late = omega arith;
         early = omega arith;
-        short = omega arith;
         sized = simp length-set g.sized;
-        told = λ site same spaced known.
-            let old = g.told site same spaced known in
-            let is : next ≡ free_run (free site board cell) (t - 1) (horizon + 1 - (t - 1)) =
-            is_run site same spaced known ∙ run_earlier (free site board cell) horizon t run (omega arith) early old.run_is in
-            record {
-              run_is = is;
-              ends_are = λ x lo hi. decide (eqb x (t - 1))
-                  (λ u. let here : x ≡ t - 1 = eqb-true x (t - 1) u in
-                  rw here (get_or-set_same ends (t - 1) end 0 (omega arith) ∙ is_end ∙ ap (λ (r : ℕ). cond (ltb dwell r) 1 0) is))
-                  (λ u. let other = eqb-false x (t - 1) u in
-                  get_or-set_other ends (t - 1) x end 0 other ∙ old.ends_are x (omega arith) hi);
-            };
+        run_is = is_run;
+        ends_are = λ x lo hi. decide (eqb x (t - 1))
+            (λ u. let here : x ≡ t - 1 = eqb-true x (t - 1) u in
+            rw here (get_or-set_same ends (t - 1) (ltb dwell next) false (omega arith) ∙ ap (ltb dwell) is_run))
+            (λ u. let other = eqb-false x (t - 1) u in
+            get_or-set_other ends (t - 1) x (ltb dwell next) false other ∙ g.ends_are x (omega arith) hi);
       }
 
   -- all are looked at
-  pub looked_all : (ends : List ℕ) (t run : ℕ) → t ≤ tick → Looked board horizon margin cell tick dwell ends t run
-      → (site : Site) (goal : ℕ) → site.horizon ≡ horizon → site.margin ≡ margin → cell_of site goal ≡ cell → cell < site.cells
-      → (x : ℕ) → tick ≤ x → x ≤ horizon → get_or ends x 0 ≡ cond (can_unload site (free site board) (node goal x) dwell) 1 0
-  looked_all ends t run done g site goal same spaced is_cell known x lo hi =
-      let can : can_unload site (free site board) (node goal x) dwell ≡ ltb dwell (free_run (free site board cell) x (horizon + 1 - x)) =
-      unload_run site (free site board) goal dwell x (omega arith) ∙ ap₂ (λ (h c : ℕ). ltb dwell (free_run (free site board c) x (h + 1 - x))) same is_cell in
-      (g.told site same spaced known).ends_are x (omega arith) hi ∙ ap (λ (b : Bool). cond b 1 0) (sym can)
+  pub looked_all : (ends : List Bool) (t run : ℕ) → t ≤ tick → Looked frees horizon tick dwell ends t run
+      → (site : Site) (f : Free) (goal : ℕ) → horizon ≡ site.horizon → frees ≡ f (cell_of site goal) → EndsRight site f goal dwell tick ends
+  looked_all ends t run done g site f goal same is x lo hi =
+      let can : can_unload site f (node goal x) dwell ≡ ltb dwell (free_run frees x (horizon + 1 - x)) =
+      unload_run site f goal dwell x hi ∙ sym (ap₂ (λ (h : ℕ) (p : ℕ → Bool). ltb dwell (free_run p x (h + 1 - x))) same is) in
+      g.ends_are x (omega arith) (omega (arith, same, hi)) ∙ sym can

@@ -1,6 +1,6 @@
 -- Where a search may end: the goal is reached and the tug can unload there.
 -- Assumes nothing.
-use Rattle.std.specs.Prelude.{ℕ, ◌+◌, ◌-◌, ◌≤◌, ◌<◌, ◌≡◌, Bool, true, false, ◌&&◌, not, List, leb, eqb, get_or}
+use Rattle.std.specs.Prelude.{ℕ, ◌+◌, ◌-◌, ◌≤◌, ◌<◌, ◌≡◌, Bool, true, false, ◌&&◌, List, leb, get_or}
 use Rattle.meaning.specs.Site.{Site}
 use Rattle.meaning.specs.Board.{Free}
 use Rattle.meaning.specs.Plan.{Node, node, can_unload}
@@ -16,9 +16,13 @@ reached_at site f a s t = leb a.tick t && reached site f a (t - a.tick) s
 abbrev pub ends_on : Site → Free → Node → ℕ → ℕ → ℕ → Bool
 ends_on site f a goal dwell t = reached_at site f a goal t && can_unload site f (node goal t) dwell
 
--- the same from the goal's row, and from a number for each tick that is 0 where the tug cannot unload
-abbrev pub ends_in : List ℕ → List ℕ → ℕ → ℕ → Bool
-ends_in re ends goal t = not (eqb (get_or ends t 0) 0) && has re goal (block_ticks + t)
+-- from the tick on `ends` says at each tick whether the tug can unload at the goal
+abbrev pub EndsRight : Site → Free → ℕ → ℕ → ℕ → List Bool → Type 0
+EndsRight site f goal dwell tick ends = (t : ℕ) → tick ≤ t → t ≤ site.horizon → get_or ends t false ≡ can_unload site f (node goal t) dwell
+
+-- the goal is reached at the tick t, and the tug can unload there, from the goal's row and from whether it can unload at each tick
+abbrev pub ends_in : List ℕ → List Bool → ℕ → ℕ → Bool
+ends_in re ends goal t = get_or ends t false && has re goal (block_ticks + t)
 
 -- r is the first number from low on and below high that the test has, or high
 pub record First (test : ℕ → Bool) (low high r : ℕ) : Type 0 where

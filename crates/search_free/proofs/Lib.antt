@@ -1,3 +1,2 @@
 mod CellLaws
-mod FreeLaws
 mod MarginLaws

@@ -7,23 +7,25 @@ use Rattle.meaning.specs.Board.{free}
 use Rattle.search_sizes.specs.Sizes.{block_ticks, window_ticks}
 use Rattle.search_ticks.specs.Rows.{at}
 
--- tick t is one of the first n, and its byte is 0
-abbrev pub free_to : List ℕ → ℕ → ℕ → ℕ → Bool
-free_to board p n t = ltb t n && eqb (get_or board (p + t) 0) 0
+-- the bytes of a cell are a row, one a tick
+
+-- the row has tick t, and its byte is 0
+abbrev pub free_to : List ℕ → ℕ → Bool
+free_to row t = ltb t (length row) && eqb (get_or row t 0) 0
 
 -- ---- with a margin
 
--- tick t is one of the first n, and its byte is not 0
-unfoldable pub held_to : List ℕ → ℕ → ℕ → ℕ → Bool
-held_to board p n t = ltb t n && not (eqb (get_or board (p + t) 0) 0)
+-- the row has tick t, and its byte is not 0
+unfoldable pub held_to : List ℕ → ℕ → Bool
+held_to row t = ltb t (length row) && not (eqb (get_or row t 0) 0)
 
 -- the same of tick u - 64: nothing is held before tick 0
-unfoldable pub held_before : List ℕ → ℕ → ℕ → ℕ → Bool
-held_before board p n u = leb 64 u && held_to board p n (u - 64)
+unfoldable pub held_before : List ℕ → ℕ → Bool
+held_before row u = leb 64 u && held_to row (u - 64)
 
--- tick t is one of the first n, and the byte of each of them from m before it to m after it is 0
-unfoldable pub spaced_to : List ℕ → ℕ → ℕ → ℕ → ℕ → Bool
-spaced_to board p n m t = ltb t n && all_from (λ (x : ℕ). eqb (get_or board (p + x) 0) 0) (t - m) (min (t + m + 1) n - (t - m))
+-- the row has tick t, and the byte of each of its ticks from m before t to m after t is 0
+unfoldable pub spaced_to : List ℕ → ℕ → ℕ → Bool
+spaced_to row m t = ltb t (length row) && all_from (λ (x : ℕ). eqb (get_or row x 0) 0) (t - m) (min (t + m + 1) (length row) - (t - m))
 
 -- ---- what is left of a block
 

@@ -1,7 +1,7 @@
 // The free ticks of each cell in a block as rows of bits, from the board's bytes.
 #![tactic(auto)]
 
-ghost use Rattle.std.specs.Prelude.{◌≡◌, ℕ, ◌+◌, ◌*◌, ◌≤◌, ◌<◌, min, ltb, length};
+ghost use Rattle.std.specs.Prelude.{◌≡◌, ℕ, ◌+◌, ◌*◌, ◌≤◌, ◌<◌, ltb, length};
 ghost use Rattle.meaning.specs.Limits.{horizon_limit, cell_limit, margin_limit, header};
 ghost use Rattle.search_sizes.specs.Sizes.{block_ticks, blocks, window_words, window_ticks, ticks};
 ghost use Rattle.search_ticks.specs.Bits.{bit};
@@ -10,114 +10,90 @@ ghost use Rattle.search_free.specs.Frees.{free_to, held_to, held_before, spaced_
 
 use search_sizes::{BLOCK_TICKS, BLOCK_WORDS, WINDOW_WORDS};
 
-fn least(a: usize, b: usize) -> usize
-    ensures { result ≡ min a b }
-{
-    if a < b { a } else { b }
-}
-
-// ---- rows
-
-// The second half of row c: the free ticks in the block of the cell whose `width` bytes begin at `start`.
-fn free_row(tab: &mut [u64], board: &[u8], c: usize, start: usize, width: usize, block: usize)
-    requires { (c * window_words + window_words ≤ length tab.old) × ((start + width ≤ length board.now) × (block < blocks)) }
-    ensures { Put tab.old tab.new (c * window_ticks + block_ticks) (λ i. free_to board.now start width (block_ticks * block + i)) }
-{
-    let a = c * WINDOW_WORDS + BLOCK_WORDS;
-    let mut i = 0;
-    while i < BLOCK_WORDS {
-        let low = least(block * BLOCK_TICKS + i * 64, width);
-        let high = least(block * BLOCK_TICKS + i * 64 + 64, width);
-        tab[a + i] = search_bytes::free_word(board, start + low, high - low);
-        i += 1;
-    }
-}
-
-// ---- rows with a margin
+// ---- the ticks of a cell, whose bytes are `row`
 
 // The bits of the 64 ticks from `tick` on that are among the first `width`.
 fn present(width: usize, tick: usize) -> u64
     ensures { (i : ℕ) → i < 64 → bit result i ≡ ltb (tick + i) width }
 {
-    if width <= tick {
-        return 0;
-    }
-    if width - tick < 64 {
-        return (1 << (width - tick)) - 1;
-    }
-    18446744073709551615
+    let left = width.saturating_sub(tick);
+    if left < 64 { (1 << left) - 1 } else { u64::MAX }
 }
 
-// Those of them whose byte is not 0, where the cell's `width` bytes begin at `start`.
-fn held_word(board: &[u8], start: usize, width: usize, tick: usize) -> u64
-    requires { (start + width ≤ length board.now) × (tick ≤ ticks) }
-    ensures { (i : ℕ) → i < 64 → bit result i ≡ held_to board.now start width (tick + i) }
+// Those of the row whose byte is 0. Inlined, so that a loop over cells computes the ends of its words once.
+#[inline(always)]
+fn free_word(row: &[u8], tick: usize) -> u64
+    requires { tick ≤ ticks }
+    ensures { (i : ℕ) → i < 64 → bit result i ≡ free_to row.now (tick + i) }
 {
-    let low = least(tick, width);
-    let high = least(tick + 64, width);
-    search_bytes::free_word(board, start + low, high - low) ^ present(width, tick)
+    let low = row.len().min(tick);
+    let high = row.len().min(tick + 64);
+    search_bytes::free_word(&row[low..high])
+}
+
+// Those of the row whose byte is not 0.
+fn held_word(row: &[u8], tick: usize) -> u64
+    requires { tick ≤ ticks }
+    ensures { (i : ℕ) → i < 64 → bit result i ≡ held_to row.now (tick + i) }
+{
+    free_word(row, tick) ^ present(row.len(), tick)
 }
 
 // The same of the 64 ticks before the block: nothing is held before tick 0.
-fn held_before(board: &[u8], start: usize, width: usize, block: usize) -> u64
-    requires { (start + width ≤ length board.now) × (block < blocks) }
-    ensures { (i : ℕ) → i < 64 → bit result i ≡ held_before board.now start width (block_ticks * block + i) }
+fn held_before(row: &[u8], block: usize) -> u64
+    requires { block < blocks }
+    ensures { (i : ℕ) → i < 64 → bit result i ≡ held_before row.now (block_ticks * block + i) }
 {
     if block == 0 {
         return 0;
     }
-    held_word(board, start, width, block * BLOCK_TICKS - 64)
+    held_word(row, block * BLOCK_TICKS - 64)
+}
+
+// ---- rows
+
+// The second half of row c: the free ticks in the block of the cell whose bytes are `row`.
+fn free_row(tab: &mut [u64], row: &[u8], c: usize, block: usize)
+    requires { (c * window_words + window_words ≤ length tab.old) × (block < blocks) }
+    ensures { Put tab.old tab.new (c * window_ticks + block_ticks) (λ i. free_to row.now (block_ticks * block + i)) }
+{
+    let a = c * WINDOW_WORDS + BLOCK_WORDS;
+    for i in 0..BLOCK_WORDS {
+        tab[a + i] = free_word(row, block * BLOCK_TICKS + i * 64);
+    }
 }
 
 // As `free_row`, with a margin m: a tick is free if no tick of the cell is held from m before it to m after it.
-fn spaced_row(
-    tab: &mut [u64],
-    board: &[u8],
-    c: usize,
-    start: usize,
-    width: usize,
-    m: u64,
-    block: usize,
-)
-    requires window_words_in_bounds { (c * window_words + window_words ≤ length tab.old) × ((start + width ≤ length board.now) × (block < blocks)) }
+fn spaced_row(tab: &mut [u64], row: &[u8], c: usize, m: u64, block: usize)
+    requires window_words_in_bounds { (c * window_words + window_words ≤ length tab.old) × (block < blocks) }
     requires le_m { (1 ≤ m) × (m < 32) }
-    ensures { Put tab.old tab.new (c * window_ticks + block_ticks) (λ i. spaced_to board.now start width m (block_ticks * block + i)) }
+    ensures { Put tab.old tab.new (c * window_ticks + block_ticks) (λ i. spaced_to row.now m (block_ticks * block + i)) }
 {
     let a = c * WINDOW_WORDS + BLOCK_WORDS;
-    let mut tick = block * BLOCK_TICKS;
-    let mut before = held_before(board, start, width, block);
-    let mut here = held_word(board, start, width, tick);
-    let mut i = 0;
-    while i < BLOCK_WORDS {
-        let after = held_word(board, start, width, tick + 64);
+    let start = block * BLOCK_TICKS;
+    let mut before = held_before(row, block);
+    let mut here = held_word(row, start);
+    for i in 0..BLOCK_WORDS {
+        let tick = start + i * 64;
+        let after = held_word(row, tick + 64);
         let near = search_margin::widened(before, here, after, m);
-        tab[a + i] = (near | present(width, tick)) ^ near;
+        tab[a + i] = present(row.len(), tick) & !near;
         before = here;
         here = after;
-        tick += 64;
-        i += 1;
     }
 }
 
 // The second half of row c at any margin: without one, a word depends on its own ticks alone.
-fn margin_row(
-    tab: &mut [u64],
-    board: &[u8],
-    c: usize,
-    start: usize,
-    width: usize,
-    margin: usize,
-    block: usize,
-)
-    requires window_words_in_bounds { (c * window_words + window_words ≤ length tab.old) × ((start + width ≤ length board.now) × (block < blocks)) }
+fn margin_row(tab: &mut [u64], row: &[u8], c: usize, margin: usize, block: usize)
+    requires window_words_in_bounds { (c * window_words + window_words ≤ length tab.old) × (block < blocks) }
     requires margin_bound { margin < 32 }
-    ensures { Put tab.old tab.new (c * window_ticks + block_ticks) (λ i. spaced_to board.now start width margin (block_ticks * block + i)) }
+    ensures { Put tab.old tab.new (c * window_ticks + block_ticks) (λ i. spaced_to row.now margin (block_ticks * block + i)) }
 {
     if margin == 0 {
-        free_row(tab, board, c, start, width, block);
+        free_row(tab, row, c, block);
         return;
     }
-    spaced_row(tab, board, c, start, width, margin as u64, block);
+    spaced_row(tab, row, c, margin as u64, block);
 }
 
 // ---- all cells
@@ -136,17 +112,8 @@ pub fn free_block(
     ensures { FreeBlock board.now cells horizon margin block tab.old tab.new }
 {
     let width = horizon + 1;
-    let mut c = 0;
-    while c < cells {
-        margin_row(
-            tab,
-            board,
-            c,
-            board::HEADER + c * width,
-            width,
-            margin,
-            block,
-        );
-        c += 1;
+    for c in 0..cells {
+        let start = board::HEADER + c * width;
+        margin_row(tab, &board[start..start + width], c, margin, block);
     }
 }

@@ -7,35 +7,16 @@ use mathlib.Core.List.{List}
 use lib.Dec.{eqb}
 use lib.ListN.{length, get_or, set, length-set}
 use lib.Seq.{get_or-set_same, get_or-set_other}
-use borrow.Author.Tests.{eqb-true, eqb-false, eq-eqb, ne_eqb}
+use borrow.Author.Tests.{eqb-true, eqb-false}
 use Rattle.meaning.proofs.BasicsLaws.{decide}
-use Rattle.search_site.specs.Arrays.{from_at, to_at}
+use Rattle.search_site.specs.Arrays.{from_at, to_at, Leads}
 use Rattle.search_lists.specs.Lists.{end_at, Chain, here, next, FirstAre, Listed}
 
--- ---- a loop that sets the first c numbers to v
-
--- it has set i of them
+-- ---- a loop that sets the first c numbers to v has set i of them
 pub record Setting (c v : ℕ) (l₀ l : List ℕ) (i : ℕ) : Type 0 where
   pub most : i ≤ c
   pub sized : length l ≡ length l₀
   pub done : FirstAre i v l
-
-pub setting_none : (c v : ℕ) (l : List ℕ) → Setting c v l l 0
-setting_none c v l = record { most = omega arith; sized = refl; done = λ i h. absurd (omega arith) }
-
-pub setting_more : (c v : ℕ) (l₀ l : List ℕ) (i : ℕ) → i < c → c ≤ length l₀ → Setting c v l₀ l i → Setting c v l₀ (set l i v) (i + 1)
-setting_more c v l₀ l i lt room g =
-    let size = g.sized in
-    record {
-      most = omega arith;
-      sized = length-set l i v ∙ size;
-      done = λ j h. decide (eqb j i)
-          (λ u. ap (λ (x : ℕ). get_or (set l i v) x 0) (eqb-true j i u) ∙ get_or-set_same l i v 0 (omega arith))
-          (λ u. let ne : j ≡ i → ⊥ = eqb-false j i u in get_or-set_other l i j v 0 ne ∙ g.done j (omega arith));
-    }
-
-pub setting_all : (c v : ℕ) (l₀ l : List ℕ) (i : ℕ) → c ≤ i → Setting c v l₀ l i → FirstAre c v l × (length l ≡ length l₀)
-setting_all c v l₀ l i past g = (λ j h. g.done j (omega arith), g.sized)
 
 -- ---- the lists
 
@@ -44,14 +25,6 @@ pub record Listing (which k n : ℕ) (mv ls : List ℕ) (m : ℕ) : Type 0 where
   pub room : k + n ≤ length ls
   pub starts : (s : ℕ) → s < n → m ≤ get_or ls (k + s) 0
   pub on : (j : ℕ) → m ≤ j → j < k → Chain ls k (get_or ls (k + end_at mv which j) 0) j
-
-pub listing_none : (which k n : ℕ) (mv ls : List ℕ) → k + n ≤ length ls → FirstAre (k + n) k ls → Listing which k n mv ls k
-listing_none which k n mv ls room none =
-    record {
-      room = room;
-      starts = λ s h. omega (arith, none (k + s) (omega arith));
-      on = λ j lo hi. absurd (omega arith);
-    }
 
 pub chain_case : {X : Type 0} {ls : List ℕ} {k a m : ℕ} → Chain ls k a m → (a ≡ m → m < k → X) → (a < k → a < get_or ls a 0 → Chain ls k (get_or ls a 0) m → X) → X
 chain_case (here lt) f g = f refl lt
@@ -64,10 +37,20 @@ chain_kept ls ls' k i same {a = a} {m = m} above (next lt up c) =
     let e : get_or ls' a 0 ≡ get_or ls a 0 = same a above (omega arith) in
     next {ls = ls'} {k = k} {a = a} {m = m} lt (omega arith) (subst (λ (x : ℕ). Chain ls' k x m) (sym e) (chain_kept ls ls' k i same (omega arith) c))
 
-pub listing_more : (which k n : ℕ) (mv ls : List ℕ) (m from : ℕ) → 0 < m → m ≤ k → from ≡ end_at mv which (m - 1) → from < n → ((j : ℕ) → j < k → end_at mv which j < n) → Listing which k n mv ls m
+-- each motion leads from and to one of the states
+pub end_below : (which k n : ℕ) (mv : List ℕ) → Leads n k mv → (m : ℕ) → m < k → end_at mv which m < n
+unfolding end_at
+end_below which k n mv leads m h = decide (eqb which 0) (λ e. rw e (leads.from m h)) (λ e. rw e (leads.to m h))
+
+-- so the first motion of a state has a place in the lists
+pub first_in : (which k n : ℕ) (mv ls : List ℕ) (m i from : ℕ) → i < k → from ≡ end_at mv which i → Leads n k mv → Listing which k n mv ls m → k + from < length ls
+first_in which k n mv ls m i from h is leads g = omega (arith, end_below which k n mv leads i h, g.room)
+
+pub listing_more : (which k n : ℕ) (mv ls : List ℕ) (m from : ℕ) → 0 < m → m ≤ k → from ≡ end_at mv which (m - 1) → Leads n k mv → Listing which k n mv ls m
     → Listing which k n mv (set (set ls (m - 1) (get_or ls (k + from) 0)) (k + from) (m - 1)) (m - 1)
-listing_more which k n mv ls m from pos most is_from small froms g =
+listing_more which k n mv ls m from pos most is_from leads g =
     let i : ℕ = m - 1 in
+    let small : from < n = omega (arith, is_from, end_below which k n mv leads i (omega arith)) in
     let old : ℕ = get_or ls (k + from) 0 in
     let ls₁ : List ℕ = set ls i old in
     let ls₂ : List ℕ = set ls₁ (k + from) i in
@@ -101,12 +84,9 @@ listing_more which k n mv ls m from pos most is_from small froms g =
           subst (λ (x : ℕ). Chain ls₂ k x j) (sym start) (next (omega arith) (omega arith) (subst (λ (x : ℕ). Chain ls₂ k x j) (sym after) rest)))
           (λ v.
           let start : get_or ls₂ (k + end_at mv which j) 0 ≡ get_or ls (k + end_at mv which j) 0 = elsewhere (end_at mv which j) (eqb-false (end_at mv which j) from v) in
-          let high : m ≤ get_or ls (k + end_at mv which j) 0 = g.starts (end_at mv which j) (froms j hi) in
+          let high : m ≤ get_or ls (k + end_at mv which j) 0 = g.starts (end_at mv which j) (end_below which k n mv leads j hi) in
           subst (λ (x : ℕ). Chain ls₂ k x j) (sym start) (chain_kept ls ls₂ k i same (omega arith) was)));
     }
-
-pub listing_all : (which k n : ℕ) (mv ls : List ℕ) (m : ℕ) → m ≤ 0 → Listing which k n mv ls m → Listed which k mv ls
-listing_all which k n mv ls m none g j h = g.on j (omega arith) h
 
 -- the list of state s, where that is the end of motion m
 pub listed_on : (which k : ℕ) (mv ls : List ℕ) (s : ℕ) → Listed which k mv ls → (m : ℕ) → m < k → end_at mv which m ≡ s → Chain ls k (get_or ls (k + s) 0) m
@@ -119,16 +99,3 @@ end_from mv m = refl
 pub end_to : (mv : List ℕ) (m : ℕ) → end_at mv 1 m ≡ to_at mv m
 unfolding end_at
 end_to mv m = refl
-
--- as the code finds it
-pub end_first : (mv : List ℕ) (which m r : ℕ) → which ≡ 0 → r ≡ from_at mv m → r ≡ end_at mv which m
-unfolding end_at
-end_first mv which m r e is = rw (eq-eqb which 0 e) is
-
-pub end_second : (mv : List ℕ) (which m r : ℕ) → (which ≡ 0 → ⊥) → r ≡ to_at mv m → r ≡ end_at mv which m
-unfolding end_at
-end_second mv which m r ne is = rw (ne_eqb which 0 ne) is
-
-pub end_below : (mv : List ℕ) (which m n : ℕ) → from_at mv m < n → to_at mv m < n → end_at mv which m < n
-unfolding end_at
-end_below mv which m n a b = decide (eqb which 0) (λ e. rw e a) (λ e. rw e b)

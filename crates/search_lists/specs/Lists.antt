@@ -2,6 +2,13 @@
 -- Assumes nothing.
 use Rattle.std.specs.Prelude.{ℕ, ◌+◌, ◌<◌, ◌≡◌, cond, List, eqb, get_or}
 use Rattle.search_site.specs.Arrays.{from_at, to_at}
+use Rattle.search_lists.specs.declared.End.{End}
+use Rattle.search_lists.specs.declared.End.TheVariants.{From, To}
+
+-- an end of a motion, by its number
+abbrev pub end_number : End → ℕ
+end_number From = 0
+end_number To = 1
 
 -- the state from which (0) or to which (1) motion m leads
 unfoldable pub end_at : List ℕ → ℕ → ℕ → ℕ

@@ -6,7 +6,7 @@ ghost use Rattle.search_ticks.specs.Bits.{bit};
 ghost use Rattle.search_margin.specs.Widening.{any_from, bit_of_two, bit_of_three};
 
 // The bits i of the word lo for which one of the n bits from bit i on is set, where the word hi follows lo.
-// Each turn doubles the k bits that are looked at.
+// Each turn doubles the k bits that are looked at, so no range gives them.
 fn spread(lo: u64, hi: u64, n: u64) -> u64
     requires { (1 ≤ n) × (n ≤ 64) }
     ensures { (i : ℕ) → i < 64 → bit result i ≡ any_from (bit_of_two lo hi) i n }
@@ -15,9 +15,9 @@ fn spread(lo: u64, hi: u64, n: u64) -> u64
     let mut b = hi;
     let mut k: u64 = 1;
     while k <= n - k {
-        a = a | search_ticks::window(a, b, k);
-        b = b | (b >> k);
-        k = k + k;
+        a |= search_ticks::window(a, b, k);
+        b |= b >> k;
+        k += k;
     }
     a | search_ticks::window(a, b, n - k)
 }

@@ -24,7 +24,8 @@ use Rattle.search_runs.specs.Runs.{ended, run_length, table_of, Shifted, Halves,
 use Rattle.search_runs.proofs.EndedLaws.{ended_at}
 use Rattle.search_site.specs.Arrays.{span_at}
 use Rattle.search_step.specs.Sets.{Room, TablesRight}
-use Rattle.search_reach.specs.Explored.{free_from, InArrays, Space, Scratch}
+use Rattle.search_scene.specs.Arrays.{InArrays}
+use Rattle.search_reach.specs.Explored.{free_from, Space}
 use Rattle.search_reach.proofs.RightLaws.{ends_free}
 
 -- ---- a test that never holds
@@ -101,17 +102,6 @@ room_made l mv tab tables few space =
 pub space_kept : (l : Sizes) (mv : List ℕ) (tables tab tab' : ℕ) → Space l mv tables tab → tab' ≡ tab → Space l mv tables tab'
 space_kept l mv tables tab tab' s same = subst (Space l mv tables) (sym same) s
 
-pub scratch_kept : (l : Sizes) (ls kn gr al re ls' kn' gr' al' re' : ℕ) → Scratch l ls kn gr al re
-    → ls' ≡ ls → kn' ≡ kn → gr' ≡ gr → al' ≡ al → re' ≡ re → Scratch l ls' kn' gr' al' re'
-scratch_kept l ls kn gr al re ls' kn' gr' al' re' s same_ls same_kn same_gr same_al same_re =
-    record {
-      lists = omega (arith, s.lists);
-      known = omega (arith, s.known);
-      grown = omega (arith, s.grown);
-      allowed = omega (arith, s.allowed);
-      reached = omega (arith, s.reached);
-    }
-
 -- ---- the site of the file
 
 -- what the counts of an accepted file keep in range
@@ -125,8 +115,8 @@ pub record Facts (file : List ℕ) (room : ℕ) (l : Sizes) : Type 0 where
   pub short : l.horizon ≤ 1000
   pub board : 4 + l.cells * (l.horizon + 1) ≤ room
 
-pub facts : (file : List ℕ) (room : ℕ) (l : Sizes) → Ready file room l → Facts file room l
-facts file room l ready =
+pub facts : {file : List ℕ} {room : ℕ} {l : Sizes} → Ready file room l → Facts file room l
+facts {file} {room} {l} ready =
     let w = read_well file (site_of file) ready.read in
     let same_cells : (site_of file).cells ≡ l.cells = sym (ap (λ (k : Sizes). k.cells) ready.sizes) in
     let same_horizon : (site_of file).horizon ≡ l.horizon = sym (ap (λ (k : Sizes). k.horizon) ready.sizes) in
@@ -154,7 +144,7 @@ module _ (file board : List ℕ) (l : Sizes) (tables b first : ℕ) (ready : Rea
       → ((h : ℕ → ℕ → Bool) (d : ℕ) → Halves h l.cells tables d tab₂ → FirstTable h l.cells d tab₂ → Tables h l.cells tables d tab₃)
       → Ahead g l.cells tables b tab₀ → Tables g l.cells tables b tab₃
   tables_made tab₀ tab₁ tab₂ tab₃ late shifted freed filled ahead =
-      let q = facts file (length board) l ready in
+      let q = facts ready in
       filled g b
       (halves_freed g l.cells tables b board tab₁ tab₂ l.horizon l.margin freed (halves_shifted g l.cells tables b tab₀ tab₁ shifted ahead))
       (first_freed (site_of file) l.cells l.horizon l.margin b first board tab₁ tab₂ q.cells q.horizon q.margin late freed)
@@ -167,5 +157,5 @@ module _ (file board : List ℕ) (l : Sizes) (tables b first : ℕ) (ready : Rea
         some = space.some;
         enough = space.enough;
         right = right;
-        ends = ends_free (site_of file) (facts file (length board) l ready).well l.states l.motions st mv file arrays.decoded g arrays.leads.to;
+        ends = ends_free (site_of file) (facts ready).well l.states l.motions st mv file arrays.decoded g arrays.leads.to;
       }

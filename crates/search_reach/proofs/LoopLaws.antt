@@ -1,36 +1,52 @@
 -- The blocks one after the other: which pairs are reached so far, and that the tug could not end in them.
 -- Assumes nothing.
-use Prim.Native.Nat.{ℕ, suc, ◌+◌, ◌-◌, ◌*◌, ◌/◌, ◌≤◌, ◌<◌, min, max}
+use Prim.Native.Nat.{ℕ, suc, ◌+◌, ◌*◌, ◌/◌, ◌≤◌, ◌<◌, min, max}
 use native.Mathlib.Omega.{arith}
 use mathlib.Core.Path.{◌≡◌, refl, sym, ap₂, ◌∙◌}
-use mathlib.Core.Bool.{Bool, true, false, cond, ◌&&◌, ◌||◌, not, false≢true}
+use mathlib.Core.Bool.{Bool, true, false, ◌&&◌, ◌||◌, false≢true, and_comm}
 use mathlib.Core.List.{List}
 use lib.Dec.{ltb, eqb}
-use lib.ListN.{length}
 use borrow.Author.Tests.{leb-true, ltb-true, ltb-false, eqb-true, eq-eqb}
-use Rattle.meaning.specs.Site.{Site, site_of, cell_of}
+use Rattle.meaning.specs.Site.{Site, cell_of}
 use Rattle.meaning.specs.Board.{Free, free}
 use Rattle.meaning.specs.Plan.{Node, node, can_unload}
 use Rattle.meaning.proofs.BasicsLaws.{decide, and_left, and_right, every_at}
-use Rattle.site.specs.Ready.{Ready}
 use Rattle.site.specs.declared.Sizes.{Sizes}
+use Rattle.site.specs.declared.Trip.{Trip}
+use Rattle.site.specs.Halls.{site_in, free_in}
 use Rattle.search_sizes.specs.Sizes.{block_ticks, blocks, row_ticks}
 use Rattle.search_ticks.specs.Rows.{at, has, Seeded}
 use Rattle.search_runs.specs.Runs.{Tables, Ahead}
 use Rattle.search_site.specs.Arrays.{span_at}
 use Rattle.search_step.specs.Sets.{Pairs, Closed, Inside, Within, Kept}
 use Rattle.search_step.proofs.StepLaws.{or_right}
-use Rattle.search_ends.specs.Ends.{reached_at, ends_on, ends_in, First}
-use Rattle.search_reach.specs.Explored.{free_from, InArrays, EndsRight}
+use Rattle.search_ends.specs.Ends.{reached_at, ends_on, ends_in, First, EndsRight}
+use Rattle.search_scene.specs.declared.Scene.{Scene}
+use Rattle.search_reach.specs.Explored.{free_from}
 use Rattle.search_reach.proofs.BlockLaws.{facts, tables_ahead, blank_ahead}
 use Rattle.search_reach.proofs.RightLaws.{reached_right}
 
-module _ (file board : List ℕ) (l : Sizes) (st mv ends : List ℕ) (tables start tick goal : ℕ) where
+module _ (scene : Scene) (ends : List Bool) (tables : ℕ) (trip : Trip) where
+  abbrev file : List ℕ
+  file = scene.hall.file.bytes.now
+
+  abbrev l : Sizes
+  l = scene.hall.sizes
+
+  abbrev start : ℕ
+  start = trip.start
+
+  abbrev tick : ℕ
+  tick = trip.tick
+
+  abbrev goal : ℕ
+  goal = trip.goal
+
   abbrev site : Site
-  site = site_of file
+  site = site_in scene.hall
 
   abbrev f : Free
-  f = free site board
+  f = free_in scene.hall
 
   abbrev a : Node
   a = node start tick
@@ -42,7 +58,7 @@ module _ (file board : List ℕ) (l : Sizes) (st mv ends : List ℕ) (tables sta
   g = free_from f first
 
   abbrev ClosedIn : ℕ → Pairs → Type 0
-  ClosedIn d = Closed l.states l.motions st mv file g d
+  ClosedIn d = Closed l.states l.motions scene.states.now scene.motions.now file g d
 
   -- the pairs reached in the blocks below b
   pub record Reaching (b : ℕ) (tab re : List ℕ) : Type 0 where
@@ -95,12 +111,12 @@ module _ (file board : List ℕ) (l : Sizes) (st mv ends : List ℕ) (tables sta
     λ s below stands u lo hi on now next.
         kept.early s (suc u) (omega arith) ∙ closed.0 s below stands u lo hi (sym (kept.early s u (omega arith)) ∙ on) now next,
     λ m below u lo hi on may.
-        kept.early _ (u + span_at mv m) (omega arith) ∙ closed.1 m below u lo hi (sym (kept.early _ u (omega arith)) ∙ on) may,
+        kept.early _ (u + span_at scene.motions.now m) (omega arith) ∙ closed.1 m below u lo hi (sym (kept.early _ u (omega arith)) ∙ on) may,
   )
 
-  pub reaching_turn : (b : ℕ) (tab tab' re re' : List ℕ) → b < blocks → Kept b re re' → Tables g l.cells tables b tab' → Within (ClosedIn b) re re' → ClosedIn b (has re')
+  pub reaching_turn : (b : ℕ) (tab tab' re re' : List ℕ) → b < blocks → Kept b re re' → Tables g l.cells tables b tab' × (Within (ClosedIn b) re re' × ClosedIn b (has re'))
       → Reaching b tab re → Reaching (b + 1) tab' re'
-  reaching_turn b tab tab' re re' few kept right within closed r =
+  reaching_turn b tab tab' re re' few kept (right, (within, closed)) r =
       record {
         from = omega (arith, r.from);
         to = omega arith;
@@ -118,31 +134,24 @@ module _ (file board : List ℕ) (l : Sizes) (st mv ends : List ℕ) (tables sta
 
   -- ---- what is reached
 
-  module _ (ready : Ready file (length board) l) (arrays : InArrays file l st mv) (known : start < l.states) (early : tick ≤ l.horizon)
-      (free_start : f (cell_of site start) tick ≡ true) where
+  module _ (known : start < l.states) (early : tick ≤ l.horizon) (free_start : f (cell_of site start) tick ≡ true) where
     in_hall : (c t : ℕ) → f c t ≡ true → t ≤ site.horizon
     unfolding free
     in_hall c t h = leb-true _ _ (every_at _ h 1)
 
     pub reached_so_far : (b : ℕ) (tab re : List ℕ) → Reaching b tab re → (s t : ℕ) → t < block_ticks * b → has re s (block_ticks + t) ≡ reached_at site f a s t
     reached_so_far b tab re r =
-        let q = facts file (length board) l ready in
-        reached_right site q.well l.states l.motions st mv file arrays.decoded f in_hall start tick first known (omega (arith, q.horizon)) (omega arith) free_start
+        let q = facts scene.hall.ready in
+        reached_right site q.well l.states l.motions scene.states.now scene.motions.now file scene.arrays.decoded f in_hall start tick first known (omega (arith, q.horizon)) (omega arith) free_start
         re b r.to r.begun r.closed r.least
 
     -- the ends that are found in the goal's row are those of the search
     ends_same : (b : ℕ) (tab re : List ℕ) → Reaching b tab re → (dwell : ℕ) → EndsRight site f goal dwell tick ends
         → (t : ℕ) → tick ≤ t → t < block_ticks * b → t ≤ l.horizon → ends_in re ends goal t ≡ ends_on site f a goal dwell t
     ends_same b tab re r dwell right t late low in_time =
-        let q = facts file (length board) l ready in
-        ap₂ (λ (x : ℕ) (y : Bool). not (eqb x 0) && y) (right t late (omega (arith, q.horizon))) (reached_so_far b tab re r goal t low)
-        ∙ turned (can_unload site f (node goal t) dwell) (reached_at site f a goal t)
-      where
-        turned : (x y : Bool) → (not (eqb (cond x 1 0) 0) && y) ≡ (y && x)
-        turned true true = refl
-        turned true false = refl
-        turned false true = refl
-        turned false false = refl
+        let q = facts scene.hall.ready in
+        ap₂ (λ (x y : Bool). x && y) (right t late (omega (arith, q.horizon))) (reached_so_far b tab re r goal t low)
+        ∙ and_comm (can_unload site f (node goal t) dwell) (reached_at site f a goal t)
 
     module _ (b : ℕ) (tab re : List ℕ) (r : Reaching (b + 1) tab re) (before : NoEnd b) (low high x : ℕ)
         (is_low : low ≡ max (b * block_ticks) tick) (is_high : high ≡ min (b * block_ticks + block_ticks) (l.horizon + 1))

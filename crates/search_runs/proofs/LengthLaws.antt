@@ -1,11 +1,12 @@
 -- How long the runs of a table are, and which table serves a length.
 -- Assumes nothing.
-use Prim.Native.Nat.{ℕ, zero, suc, ◌+◌, ◌-◌, ◌≤◌, ◌<◌}
+use Prim.Native.Nat.{ℕ, zero, suc, ◌+◌, ◌-◌, ◌*◌, ◌%◌, ◌^◌, ◌≤◌, ◌<◌}
+use lib.Pow.{pow_mono, pow_pos}
 use native.Mathlib.Omega.{arith}
 use mathlib.Core.Path.{◌≡◌, refl}
 use mathlib.Core.Bool.{Bool, true, ◌&&◌}
 use lib.Dec.{ltb, leb}
-use borrow.Author.Tests.{ltb-true, leb-true, lt-ltb}
+use borrow.Author.Tests.{ltb-true, leb-true, lt-ltb, le-ltb}
 use Rattle.meaning.specs.Basics.{all_below}
 use Rattle.meaning.proofs.BasicsLaws.{and_left, and_right, below_at}
 use Rattle.search_runs.specs.Runs.{run_tables, run_length, table_of}
@@ -82,6 +83,16 @@ table_mono n m pos few h = let e : n + (m - n) ≡ m = omega arith in rw e at (t
 pub length_small : (t : ℕ) → t < 4 → run_length t ≡ suc t
 unfolding run_length
 length_small t h = rw (lt-ltb t 4 h)
+
+-- and from then on each length is a power of two
+pub length_power : (t : ℕ) → 4 ≤ t → t < run_tables
+    → (1 * 2 ^ (t - 1) % 2 ^ 64 ≡ run_length t) × ((1 ≤ 1 * 2 ^ (t - 1) % 2 ^ 64) × (1 * 2 ^ (t - 1) % 2 ^ 64 ≤ 128))
+unfolding run_length
+length_power t most few =
+    let least = pow_pos (t - 1) in
+    let less = pow_mono {i = t - 1} {j = 7} (omega arith) in
+    let exact : 1 * 2 ^ (t - 1) % 2 ^ 64 ≡ 2 ^ (t - 1) = omega arith in
+    (rw (le-ltb t 4 most) exact, (omega arith, omega arith))
 
 pub table_small : (t : ℕ) → t < 4 → table_of (suc t) ≡ t
 unfolding table_of

@@ -15,62 +15,36 @@ pub fn length_of(t: usize) -> usize
     requires { t < run_tables }
     ensures { (result ≡ run_length t) × ((1 ≤ result) × (result ≤ 128)) }
 {
-    if t < 4 {
-        return t + 1;
-    }
-    if t == 4 {
-        return 8;
-    }
-    if t == 5 {
-        return 16;
-    }
-    if t == 6 {
-        return 32;
-    }
-    if t == 7 {
-        return 64;
-    }
-    128
+    if t < 4 { t + 1 } else { 1 << (t - 1) }
 }
 
 // The table with the longest runs of at most n ticks.
+#[tactic(auto, using(std::proofs::lemmas::Bool::Decides::nat_tests), unfolding(crate::specs::Runs::table_of))]
 pub fn table_of(n: usize) -> usize
     requires { 1 ≤ n }
     ensures { (result ≡ table_of n) × (result < run_tables) }
 {
-    if n < 5 {
-        return n - 1;
+    match n {
+        ..5 => n - 1,
+        5..8 => 3,
+        8..16 => 4,
+        16..32 => 5,
+        32..64 => 6,
+        64..128 => 7,
+        _ => 8,
     }
-    if n < 8 {
-        return 3;
-    }
-    if n < 16 {
-        return 4;
-    }
-    if n < 32 {
-        return 5;
-    }
-    if n < 64 {
-        return 6;
-    }
-    if n < 128 {
-        return 7;
-    }
-    8
 }
 
 // ---- the next block
 
-// The block of row r becomes the one before.
+// The block of row r becomes the one before. `copy_within` would call memmove, which the archive is to do without.
 fn shift_row(tab: &mut [u64], r: usize)
     requires { r * window_words + window_words ≤ length tab.old }
     ensures { Put tab.old tab.new (r * window_ticks) (λ i. at tab.old (r * window_ticks + block_ticks + i)) }
 {
     let a = r * WINDOW_WORDS;
-    let mut i = 0;
-    while i < BLOCK_WORDS {
+    for i in 0..BLOCK_WORDS {
         tab[a + i] = tab[a + BLOCK_WORDS + i];
-        i += 1;
     }
 }
 
@@ -79,10 +53,8 @@ pub fn shift_rows(tab: &mut [u64], rows: usize)
     requires { rows * window_words ≤ length tab.old }
     ensures { Shifted tab.old tab.new rows }
 {
-    let mut r = 0;
-    while r < rows {
+    for r in 0..rows {
         shift_row(tab, r);
-        r += 1;
     }
 }
 
@@ -95,10 +67,8 @@ fn longer_row(tab: &mut [u64], r: usize, q: usize, back: usize)
     let b = r * WINDOW_WORDS + (BLOCK_TICKS - back) / 64;
     let d = q * WINDOW_WORDS + BLOCK_WORDS;
     let e = ((BLOCK_TICKS - back) % 64) as u64;
-    let mut i = 0;
-    while i < BLOCK_WORDS {
+    for i in 0..BLOCK_WORDS {
         tab[d + i] = tab[a + i] & search_ticks::window(tab[b + i], tab[b + i + 1], e);
-        i += 1;
     }
 }
 
@@ -111,10 +81,8 @@ fn longer_runs(tab: &mut [u64], cells: usize, t: usize)
         → Halves g cells tables b tab.new × Tables g cells (t + 1) b tab.new }
 {
     let back = length_of(t) - length_of(t - 1);
-    let mut c = 0;
-    while c < cells {
+    for c in 0..cells {
         longer_row(tab, (t - 1) * cells + c, t * cells + c, back);
-        c += 1;
     }
 }
 
@@ -126,9 +94,7 @@ pub fn fill_runs(tab: &mut [u64], cells: usize, tables: usize)
     ensures by_index { (g : ℕ → ℕ → Bool) (b : ℕ) → Halves g cells tables b tab.old → FirstTable g cells b tab.old
         → Tables g cells tables b tab.new }
 {
-    let mut t = 1;
-    while t < tables {
+    for t in 1..tables {
         longer_runs(tab, cells, t);
-        t += 1;
     }
 }

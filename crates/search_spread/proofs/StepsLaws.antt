@@ -17,12 +17,12 @@ kept_then b l₀ l l' p q =
     }
 
 module _ {cells n k b : ℕ} {st mv sw tab : List ℕ} where
-  pub stepped_start : (known al l : List ℕ) {C : (ℕ → ℕ → Bool) → Pairs → Type 0} {Q : (ℕ → ℕ → Bool) → Type 0} → ((g : ℕ → ℕ → Bool) → Q g)
+  pub stepped_start : (known : List Bool) (al l : List ℕ) {C : (ℕ → ℕ → Bool) → Pairs → Type 0} {Q : (ℕ → ℕ → Bool) → Type 0} → ((g : ℕ → ℕ → Bool) → Q g)
       → Stepped cells n k b st mv sw tab known al l known al l C Q
   stepped_start known al l q = record { kept = kept_start b l; sized = (refl, refl); right = λ g right ready. (ready, (λ R c inside. inside, q g)) }
 
   -- closed under more, and what follows
-  pub stepped_map : {known₀ al₀ l₀ known al l : List ℕ} {C D : (ℕ → ℕ → Bool) → Pairs → Type 0} {P Q : (ℕ → ℕ → Bool) → Type 0}
+  pub stepped_map : {known₀ : List Bool} {al₀ l₀ : List ℕ} {known : List Bool} {al l : List ℕ} {C D : (ℕ → ℕ → Bool) → Pairs → Type 0} {P Q : (ℕ → ℕ → Bool) → Type 0}
       → ((g : ℕ → ℕ → Bool) (R : Pairs) → D g R → C g R) → ((g : ℕ → ℕ → Bool) → P g → Q g)
       → Stepped cells n k b st mv sw tab known₀ al₀ l₀ known al l C P → Stepped cells n k b st mv sw tab known₀ al₀ l₀ known al l D Q
   stepped_map more f p =
@@ -32,7 +32,7 @@ module _ {cells n k b : ℕ} {st mv sw tab : List ℕ} where
         right = λ g right ready. let (now, (within, q)) = p.right g right ready in (now, (λ R d. within R (more g R d), f g q));
       }
 
-  pub stepped_then : {known₀ al₀ l₀ known₁ al₁ l₁ known al l : List ℕ} {C : (ℕ → ℕ → Bool) → Pairs → Type 0} {P Q S : (ℕ → ℕ → Bool) → Type 0}
+  pub stepped_then : {known₀ : List Bool} {al₀ l₀ : List ℕ} {known₁ : List Bool} {al₁ l₁ : List ℕ} {known : List Bool} {al l : List ℕ} {C : (ℕ → ℕ → Bool) → Pairs → Type 0} {P Q S : (ℕ → ℕ → Bool) → Type 0}
       → ((g : ℕ → ℕ → Bool) → P g → Q g → S g)
       → Stepped cells n k b st mv sw tab known₀ al₀ l₀ known₁ al₁ l₁ C P → Stepped cells n k b st mv sw tab known₁ al₁ l₁ known al l C Q
       → Stepped cells n k b st mv sw tab known₀ al₀ l₀ known al l C S

@@ -1,48 +1,32 @@
 // The waits and the motions of one state in a block of ticks: what they set, and which states' sets grow.
 #![tactic(auto)]
 
+mod notes;
+
 ghost use Rattle.std.specs.Prelude.{◌≡◌, ◌+◌, ◌*◌, ◌≤◌, ◌<◌, length};
-ghost use Rattle.search_sizes.specs.Sizes.{block_words, blocks, row_words};
-ghost use Rattle.search_site.specs.Arrays.{States, Motions, CellsBelow, Leads};
-ghost use Rattle.search_site.specs.Decoded.{Sweeps};
-ghost use Rattle.search_step.specs.Sets.{MoveClosed, Below, Closed, Room};
-ghost use Rattle.search_spread.specs.Spread.{Stepped, MovesTried, StillTried, Noted, Progress, Unnoted, UnnotedBut};
+ghost use Rattle.search_sizes.specs.Sizes.{row_words};
+ghost use Rattle.search_step.specs.Blocks.{MotionsClosed, BlockClosed};
+ghost use Rattle.search_spread.specs.Notes.{Fit, Same, Steps, FromTried, AllStillTried};
+ghost use Rattle.search_spread.specs.Spread.{Noted, Progress, Unnoted, UnnotedBut};
+
+pub use notes::Notes;
+use search_step::Block;
 
 // Tries the motions of the list of state s, and notes the states whose sets grow.
-fn move_from(
-    states: &[u16],
-    motions: &[u16],
-    sweeps: &[u8],
-    tab: &[u64],
-    allowed: &mut [u64],
-    known: &mut [u8],
-    reached: &mut [u64],
-    lists: &[u16],
-    grown: &mut [u64],
-    cells: usize,
-    n: usize,
-    k: usize,
-    s: usize,
-    block: usize,
-)
-    requires states { States n states.now × (CellsBelow cells n states.now × (Motions k motions.now × (Leads n k motions.now × (s < n)))) }
-    requires sweeps { Sweeps cells k motions.now sweeps.now × (Room cells k motions.now tab.now × (block < blocks)) }
-    requires block_words_in_bounds { (k * block_words ≤ length allowed.old) × ((k ≤ length known.old) × (n * row_words ≤ length reached.old)) }
-    requires n_in_bounds { (k + n ≤ length lists.now) × (n ≤ length grown.old) }
-    ensures stepped { Stepped cells n k block states.now motions.now sweeps.now tab.now
-        known.old allowed.old reached.old known.new allowed.new reached.new
-        (λ g. Below (MoveClosed motions.now sweeps.now g block) k)
-        (MovesTried k motions.now sweeps.now lists.now block s reached.new grown.new) }
-    ensures grown_len_unchanged { (length grown.new ≡ length grown.old) × Noted reached.old grown.old reached.new grown.new }
-    ensures progress { Progress reached.old reached.new (Unnoted grown.old grown.new) }
+fn move_from(block: &Block<'_>, lists: &[u16], s: usize, reached: &mut [u64], notes: &mut Notes<'_>)
+    requires s_in_bounds { (s < block.now.network.state_count) × (block.now.network.motion_count + block.now.network.state_count ≤ length lists.now) }
+    requires fit { (block.now.network.state_count * row_words ≤ length reached.old) × Fit block.now.network.motion_count block.now.network.state_count notes.old }
+    ensures same { Same notes.old notes.new }
+    ensures steps { Steps block.now notes.old reached.old notes.new reached.new (MotionsClosed block.now) (FromTried block.now lists.now s notes.new reached.new) }
+    ensures grown_len_unchanged { (length notes.new.grown.now ≡ length notes.old.grown.now) × Noted reached.old notes.old.grown.now reached.new notes.new.grown.now }
+    ensures progress { Progress reached.old reached.new (Unnoted notes.old.grown.now notes.new.grown.now) }
 {
-    let mut m = search_lists::listed_at(lists, k + s);
-    while m < k {
-        let new = search_step::move_one(
-            states, motions, sweeps, tab, allowed, known, reached, cells, n, k, m, block,
-        );
-        let to = search_site::to_of(motions, k, m);
-        grown[to] = grown[to] | new;
+    let network = &block.network;
+    let mut m = search_lists::listed_at(lists, network.motion_count + s);
+    while m < network.motion_count {
+        let new = search_step::move_one(block, m, notes.allowed, notes.known, reached);
+        let to = search_site::to_of(network.motions, network.motion_count, m);
+        notes.grown[to] |= new;
         let after = search_lists::listed_at(lists, m);
         if after <= m {
             return;
@@ -53,42 +37,35 @@ fn move_from(
 
 // Tries the waits and the motions of state s, if its set has grown since the last time.
 pub fn spread_one(
-    states: &[u16],
-    motions: &[u16],
-    sweeps: &[u8],
-    tab: &[u64],
-    allowed: &mut [u64],
-    known: &mut [u8],
-    reached: &mut [u64],
+    block: &Block<'_>,
     lists: &[u16],
-    grown: &mut [u64],
-    cells: usize,
-    n: usize,
-    k: usize,
     s: usize,
-    block: usize,
+    reached: &mut [u64],
+    notes: &mut Notes<'_>,
 )
-    requires states { States n states.now × (CellsBelow cells n states.now × (Motions k motions.now × (Leads n k motions.now × (s < n)))) }
-    requires sweeps { Sweeps cells k motions.now sweeps.now × (Room cells k motions.now tab.now × (block < blocks)) }
-    requires block_words_in_bounds { (k * block_words ≤ length allowed.old) × ((k ≤ length known.old) × (n * row_words ≤ length reached.old)) }
-    requires n_in_bounds { (k + n ≤ length lists.now) × (n ≤ length grown.old) }
-    ensures stepped { Stepped cells n k block states.now motions.now sweeps.now tab.now
-        known.old allowed.old reached.old known.new allowed.new reached.new
-        (λ g. Closed n k states.now motions.now sweeps.now g block)
-        (StillTried n k states.now motions.now sweeps.now lists.now block
-        grown.old reached.old grown.new reached.new) }
-    ensures grown_len_unchanged { length grown.new ≡ length grown.old }
-    ensures progress { Progress reached.old reached.new (UnnotedBut grown.old grown.new s) }
+    requires s_in_bounds { (s < block.now.network.state_count) × (block.now.network.motion_count + block.now.network.state_count ≤ length lists.now) }
+    requires fit { (block.now.network.state_count * row_words ≤ length reached.old) × Fit block.now.network.motion_count block.now.network.state_count notes.old }
+    ensures same { Same notes.old notes.new }
+    ensures steps { Steps block.now notes.old reached.old notes.new reached.new (BlockClosed block.now) (AllStillTried block.now lists.now notes.old reached.old notes.new reached.new) }
+    ensures grown_len_unchanged { length notes.new.grown.now ≡ length notes.old.grown.now }
+    ensures progress { Progress reached.old reached.new (UnnotedBut notes.old.grown.now notes.new.grown.now s) }
 {
-    if grown[s] == 0 {
+    if !notes.grown[s] {
         return;
     }
-    grown[s] = 0;
-    if search_ticks::window_union(reached, s, block) == 0 {
+    notes.grown[s] = false;
+    if search_ticks::window_union(reached, s, block.number) == 0 {
         return;
     }
-    search_step::wait_one(states, tab, reached, cells, n, s, block);
-    move_from(
-        states, motions, sweeps, tab, allowed, known, reached, lists, grown, cells, n, k, s, block,
+    let network = &block.network;
+    search_step::wait_one(
+        network.states,
+        block.tab,
+        reached,
+        network.cell_count,
+        network.state_count,
+        s,
+        block.number,
     );
+    move_from(block, lists, s, reached, notes);
 }

@@ -3,16 +3,15 @@
 use Prim.Native.Nat.{ℕ, zero, suc, ◌+◌, ◌-◌, ◌*◌, ◌≤◌, ◌<◌}
 use native.Mathlib.Omega.{arith}
 use mathlib.Core.Path.{◌≡◌, refl, sym, ap, ap₂, ◌∙◌}
-use mathlib.Core.Bool.{Bool, true, false, ◌&&◌, ◌||◌, false≢true}
+use mathlib.Core.Bool.{Bool, true, false, not, ◌&&◌, ◌||◌, and-true}
 use mathlib.Core.List.{List}
 use lib.Dec.{ltb, eqb}
-use lib.ListN.{length, get_or, set}
-use lib.Seq.{get_or-set_other}
+use lib.ListN.{length, get_or}
 use borrow.Author.Tests.{ltb-true, ltb-false, eqb-true, eqb-false}
+use Rattle.std.proofs.lemmas.Bool.{not-true, not-false, or_left}
 use Rattle.meaning.proofs.BasicsLaws.{decide, and_left, and_right}
 use Rattle.search_sizes.specs.Sizes.{block_ticks, blocks, window_ticks, row_ticks, block_start, span_limit}
-use Rattle.search_ticks.specs.Rows.{at, has, Grown, Changed, pushed, waited, filled}
-use Rattle.search_ticks.proofs.RowLaws.{grown_start}
+use Rattle.search_ticks.specs.Rows.{at, has, total, Grown, Changed, pushed, waited, filled}
 use Rattle.search_runs.specs.Runs.{ended, run_length}
 use Rattle.search_site.specs.Arrays.{cell_at, speed_at, from_at, to_at, span_at}
 use Rattle.search_step.specs.Sets.{Pairs, WaitClosed, ends_at, MoveClosed, Inside, Within, Kept, RowSet, TablesRight, RowReady, RowsReady}
@@ -23,25 +22,22 @@ pub either : {X : Type 0} (a b : Bool) → (a || b) ≡ true → (a ≡ true →
 either true b e f g = f refl
 either false b e f g = g e
 
-or_left : (a b : Bool) → a ≡ true → (a || b) ≡ true
-or_left true b e = refl
-or_left false b e = absurd (false≢true e)
-
 pub or_right : (a b : Bool) → b ≡ true → (a || b) ≡ true
 or_right true b e = refl
 or_right false b e = e
-
-and_true : (a : Bool) → (a && true) ≡ a
-and_true true = refl
-and_true false = refl
 
 -- ---- nothing is set
 
 pub kept_start : (b : ℕ) (l : List ℕ) → Kept b l l
 kept_start b l = record { inside = λ s u h e. e; early = λ s u h. refl; sized = refl }
 
-pub row_set_none : (b s : ℕ) (l : List ℕ) → RowSet b s l l 0
-row_set_none b s l = record { kept = kept_start b l; others = λ x u ne h. refl; grown = grown_start l }
+-- ---- what was new, as a test of the bits that were new
+
+grown_same : (l l' : List ℕ) (d : ℕ) → Grown l l' d → not (eqb d 0) ≡ false → l' ≡ l
+grown_same l l' d grown e = grown.same (eqb-true d 0 (not-false (eqb d 0) e))
+
+grown_more : (l l' : List ℕ) (d : ℕ) → Grown l l' d → not (eqb d 0) ≡ true → total l < total l'
+grown_more l l' d grown e = let some : d ≡ 0 → ⊥ = eqb-false d 0 (not-true (eqb d 0) e) in grown.more (omega arith)
 
 -- ---- a block of a row is set
 
@@ -77,16 +73,16 @@ module _ (l l' : List ℕ) (s b : ℕ) (test : ℕ → Bool) (small : b < blocks
       (λ same. same ∙ e)
       (λ i lt row place. rw (row, place) (changed.here i lt ∙ keeps i lt (rw (row, place) at e)))
 
-  block_set : (d : ℕ) → ((i : ℕ) → i < block_ticks → has l s (block_start b + i) ≡ true → test i ≡ true) → Grown l l' d → RowSet b s l l' d
+  block_set : (d : ℕ) → ((i : ℕ) → i < block_ticks → has l s (block_start b + i) ≡ true → test i ≡ true) → Grown l l' d → RowSet b s l l' (not (eqb d 0))
   block_set d keeps grown =
-      record { kept = record { inside = block_kept keeps; early = early_same; sized = changed.sized }; others = changed.others; grown = grown }
+      record { kept = record { inside = block_kept keeps; early = early_same; sized = changed.sized }; others = changed.others; same = grown_same l l' d grown; more = grown_more l l' d grown }
 
 -- ---- the free positions of a block
 
 -- a run of one position
 run_one : (g : ℕ → Bool) (u : ℕ) → ended g (run_length 0) u ≡ g u
 unfolding ended run_length
-run_one g u = let same : u - 0 ≡ u = omega arith in and_true (g (u - 0)) ∙ ap g same
+run_one g u = let same : u - 0 ≡ u = omega arith in and-true (g (u - 0)) ∙ ap g same
 
 -- the first rows have the free positions of each cell
 pub free_row : {g : ℕ → ℕ → Bool} {cells n k b : ℕ} {st mv sw tab : List ℕ} → TablesRight g cells n k b st mv sw tab
@@ -121,7 +117,7 @@ module _ (mv l l' al : List ℕ) (b m from to span : ℕ) (small : b < blocks)
     (is_from : from ≡ from_at mv m) (is_to : to ≡ to_at mv m) (is_span : span ≡ span_at mv m) (short : span ≤ span_limit)
     (changed : Changed l l' to b (pushed l al from to m span b)) where
   -- what a push sets
-  pub push_set : (d : ℕ) → Grown l l' d → RowSet b (to_at mv m) l l' d
+  pub push_set : (d : ℕ) → Grown l l' d → RowSet b (to_at mv m) l l' (not (eqb d 0))
   push_set d grown =
       rw (← is_to) (block_set l l' to b (pushed l al from to m span b) small changed d
       (λ i lt e. or_left (has l to (block_start b + i)) (has l from (block_start b + i - span) && at al (m * block_ticks + i)) e) grown)
@@ -161,24 +157,13 @@ quiet_closed {g = g} {b = b} {st = st} {mv = mv} {sw = sw} {tab = tab} r l m fro
     old i lt on
     (ap (at tab) place ∙ free_row r cell (block_ticks + i) known_cell (omega arith) ∙ ap₂ g same position ∙ r.ends m (block_start b + i) lt_k may))
 
--- the row of motion m is worked out
-pub ready_more : (g : ℕ → ℕ → Bool) (k b m : ℕ) (mv sw known al al' : List ℕ)
-    → ((x i : ℕ) → (x ≡ m → ⊥) → i < block_ticks → at al' (x * block_ticks + i) ≡ at al (x * block_ticks + i))
-    → RowReady g b mv sw al' m → RowsReady g k b mv sw known al → RowsReady g k b mv sw (set known m 1) al'
-ready_more g k b m mv sw known al al' others here ready x lt marked i h =
-    decide (eqb x m)
-    (λ u. rw (eqb-true x m u) (here i h))
-    (λ u.
-    let ne : x ≡ m → ⊥ = eqb-false x m u in
-    others x i ne h ∙ ready x lt (λ z. marked (get_or-set_other known m x 1 0 ne ∙ z)) i h)
-
 -- the row of motion m is right after al and known have changed to al' and known'
-pub record Prepared (cells n k b m : ℕ) (st mv sw tab known al known' al' : List ℕ) : Type 0 where
+pub record Prepared (cells n k b m : ℕ) (st mv sw tab : List ℕ) (known : List Bool) (al : List ℕ) (known' : List Bool) (al' : List ℕ) : Type 0 where
   pub sized : (length al' ≡ length al) × (length known' ≡ length known)
   pub rows : (g : ℕ → ℕ → Bool) → TablesRight g cells n k b st mv sw tab → RowsReady g k b mv sw known al → RowsReady g k b mv sw known' al' × RowReady g b mv sw al' m
 
 -- it was known before
-pub prepared_known : (cells n k b m : ℕ) (st mv sw tab known al known' al' : List ℕ) → m < k → (get_or known m 0 ≡ 0 → ⊥) → al' ≡ al → known' ≡ known
+pub prepared_known : (cells n k b m : ℕ) (st mv sw tab : List ℕ) (known : List Bool) (al : List ℕ) (known' : List Bool) (al' : List ℕ) → m < k → get_or known m false ≡ true → al' ≡ al → known' ≡ known
     → Prepared cells n k b m st mv sw tab known al known' al'
 prepared_known cells n k b m st mv sw tab known al known' al' lt marked same_al same_known =
     rw (same_al, same_known) (record { sized = (refl, refl); rows = λ g right ready. (ready, ready m lt marked) })
@@ -196,7 +181,7 @@ module _ (l l' tab : List ℕ) (b s c : ℕ) (small : b < blocks) (changed : Cha
   run j = waited free held j
 
   -- what a fill sets
-  pub fill_set : (d : ℕ) → Grown l l' d → RowSet b s l l' d
+  pub fill_set : (d : ℕ) → Grown l l' d → RowSet b s l l' (not (eqb d 0))
   fill_set d grown =
       block_set l l' s b (filled l tab s c b) small changed d (λ i lt e. or_left (has l s (block_start b + i)) (run (suc i)) e) grown
 

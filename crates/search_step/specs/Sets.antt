@@ -1,10 +1,10 @@
 -- Sets of pairs of state and position that are closed under the one-tick waits and the motions that end in a block, and what a step of the
 -- search does to such a set. Here g has the free positions of each cell.
 -- Assumes nothing.
-use Rattle.std.specs.Prelude.{ℕ, suc, ◌+◌, ◌*◌, ◌≤◌, ◌<◌, ◌≡◌, Bool, true, List, length, get_or}
+use Rattle.std.specs.Prelude.{ℕ, suc, ◌+◌, ◌*◌, ◌≤◌, ◌<◌, ◌≡◌, Bool, true, false, List, length, get_or}
 use Rattle.meaning.specs.Limits.{cell_limit}
 use Rattle.search_sizes.specs.Sizes.{block_ticks, row_ticks, window_words, block_start}
-use Rattle.search_ticks.specs.Rows.{at, has, Grown}
+use Rattle.search_ticks.specs.Rows.{at, has, total}
 use Rattle.search_runs.specs.Runs.{table_of, Tables}
 use Rattle.search_arrivals.specs.Arrivals.{arrives}
 use Rattle.search_site.specs.Arrays.{cell_at, speed_at, from_at, to_at, span_at}
@@ -54,11 +54,12 @@ pub record Kept (b : ℕ) (l₀ l : List ℕ) : Type 0 where
   pub early : (s u : ℕ) → u < block_start b → has l s u ≡ has l₀ s u
   pub sized : length l ≡ length l₀
 
--- it does that to row s alone, and d is 0 where nothing was new
-pub record RowSet (b s : ℕ) (l₀ l : List ℕ) (d : ℕ) : Type 0 where
+-- it does that to row s alone; nothing has changed where nothing was new, and else the sum of the words has grown
+pub record RowSet (b s : ℕ) (l₀ l : List ℕ) (new : Bool) : Type 0 where
   pub kept : Kept b l₀ l
   pub others : (x u : ℕ) → (x ≡ s → ⊥) → u < row_ticks → has l x u ≡ has l₀ x u
-  pub grown : Grown l₀ l d
+  pub same : new ≡ false → l ≡ l₀
+  pub more : new ≡ true → total l₀ < total l
 
 -- ---- the tables of a block
 
@@ -81,5 +82,5 @@ abbrev pub RowReady : (ℕ → ℕ → Bool) → ℕ → List ℕ → List ℕ �
 RowReady g b mv sw al m = (i : ℕ) → i < block_ticks → at al (m * block_ticks + i) ≡ ends_at mv sw g m (block_start b + i)
 
 -- so have the rows of all motions that are known
-abbrev pub RowsReady : (ℕ → ℕ → Bool) → ℕ → ℕ → List ℕ → List ℕ → List ℕ → List ℕ → Type 0
-RowsReady g k b mv sw known al = (m : ℕ) → m < k → (get_or known m 0 ≡ 0 → ⊥) → RowReady g b mv sw al m
+abbrev pub RowsReady : (ℕ → ℕ → Bool) → ℕ → ℕ → List ℕ → List ℕ → List Bool → List ℕ → Type 0
+RowsReady g k b mv sw known al = (m : ℕ) → m < k → get_or known m false ≡ true → RowReady g b mv sw al m

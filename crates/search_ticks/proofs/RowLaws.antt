@@ -1,6 +1,6 @@
 -- The loop that changes a row word by word, the bits of the changed row, and the sum of the words, which grows with every new bit.
 -- Assumes nothing.
-use Rattle.std.proofs.Common.{◌≡◌, ℕ, zero, suc, ◌+◌, ◌-◌, ◌*◌, ◌/◌, ◌%◌, ◌<◌, ◌≤◌, Bool, false, eqb, ltb, List, [], ◌∷◌, length, get_or, set, replicate, sym, refl, ap, ◌∙◌, ap₂, add-zero, suc-mul, add-one, arith, length-set, get_or-set_other, get_or-set_same, ltb-false, ltb-true, eqb-true}
+use Rattle.std.proofs.Common.{◌≡◌, ℕ, zero, suc, ◌+◌, ◌-◌, ◌*◌, ◌/◌, ◌%◌, ◌<◌, ◌≤◌, Bool, false, eqb, ltb, List, [], ◌∷◌, length, get_or, set, replicate, sym, refl, ap, ◌∙◌, ap₂, suc-mul, add-one, arith, length-set, get_or-set_other, get_or-set_same, ltb-false, ltb-true, eqb-true}
 use lib.Bits.{bit_or, bit_xor, and_le_l, and_le_r, or_add_and, xor_add_and, xor_self}
 use lib.ListN.{length-replicate, get_or-replicate, get_or-eq_default}
 use lib.Seq.{set-get_or}
@@ -8,7 +8,7 @@ use borrow.Author.Tests.{eqb-false}
 use Rattle.meaning.proofs.BasicsLaws.{decide}
 use Rattle.search_sizes.specs.Sizes.{block_ticks}
 use Rattle.search_ticks.specs.Bits.{bit, window_of}
-use Rattle.search_ticks.specs.Rows.{at, Words, total, Grown, Put, new_bits, join_four, new_four}
+use Rattle.search_ticks.specs.Rows.{at, Words, total, Grown, Put}
 use Rattle.search_ticks.proofs.BitLaws.{or_zero, bit_past, window_low, window_high}
 
 pub zeros_at : (n i : ℕ) → get_or (replicate {A = ℕ} n 0) i 0 ≡ 0
@@ -174,7 +174,7 @@ grown_turn l₀ l d k y h g = go (get_or l k 0) (bit_or (get_or l k 0) y) refl (
       sized = length-set l k new ∙ g.sized;
     }
 
--- ---- four words from place b on joined with others, where all are read before the first store
+-- ---- the words from place b on joined with others
 
 module _ (g : ℕ → ℕ) (b : ℕ) where
   abbrev pub join_word : ℕ → ℕ → ℕ
@@ -186,28 +186,20 @@ module _ (g : ℕ → ℕ) (b : ℕ) where
     pub left : map_row join_word b (4 - i) i l ≡ map_row join_word b 4 0 l₀
     pub rest : (j : ℕ) → i ≤ j → get_or l (b + j) 0 ≡ get_or l₀ (b + j) 0
 
-  joining_start : (l : List ℕ) → Joining l l 0 0
+  pub joining_start : (l : List ℕ) → Joining l l 0 0
   joining_start l = record { grown = grown_start l; left = refl; rest = λ j h. refl }
 
-  joining_turn : {l : List ℕ} {d : ℕ} (l₀ : List ℕ) (i : ℕ) → i < 4 → b + i < length l₀ → Joining l₀ l d i
-      → Joining l₀ (set l (b + i) (bit_or (get_or l₀ (b + i) 0) (g i))) (bit_or d (new_bits (get_or l₀ (b + i) 0) (g i))) (i + 1)
-  joining_turn {l} {d} l₀ i h n s =
-      let same : get_or l (b + i) 0 ≡ get_or l₀ (b + i) 0 = s.rest i (omega arith) in
-      record {
-        grown = rw same at (grown_turn l₀ l d (b + i) (g i) (omega (arith, s.grown.sized)) s.grown);
-        left = rw same at (map_turn join_word b i l (map_row join_word b 4 0 l₀) h s.left);
+  pub joining_turn : {l : List ℕ} {d : ℕ} (l₀ : List ℕ) (i x : ℕ) → i < 4 → b + i < length l → x ≡ g i → Joining l₀ l d i
+      → Joining l₀ (set l (b + i) (bit_or (get_or l (b + i) 0) x)) (bit_or d (bit_xor (bit_or (get_or l (b + i) 0) x) (get_or l (b + i) 0))) (i + 1)
+  joining_turn {l} {d} l₀ i x h n e s =
+      rw e
+      (record {
+        grown = grown_turn l₀ l d (b + i) (g i) n s.grown;
+        left = map_turn join_word b i l (map_row join_word b 4 0 l₀) h s.left;
         rest = λ j later. get_or-set_other l (b + i) (b + j) _ 0 (λ e. omega arith) ∙ s.rest j (omega arith);
-      }
+      })
 
-  pub four_joined : (l : List ℕ) → b + 4 ≤ length l → Joining l (join_four l b (g 0) (g 1) (g 2) (g 3)) (new_four l b (g 0) (g 1) (g 2) (g 3)) 4
-  unfolding join_four new_four
-  four_joined l room =
-      let one = rw (add-zero b) at (joining_turn l 0 (omega arith) (omega arith) (joining_start l)) in
-      let two = joining_turn l 1 (omega arith) (omega arith) one in
-      let three = joining_turn l 2 (omega arith) (omega arith) two in
-      joining_turn l 3 (omega arith) (omega arith) three
-
-  pub put_joined : (l₀ l : List ℕ) (d : ℕ) (test : ℕ → Bool) → b + 4 ≤ length l₀ → Joining l₀ l d 4
-      → ((i : ℕ) → i < block_ticks → bit (bit_or (get_or l₀ (b + i / 64) 0) (g (i / 64))) (i % 64) ≡ test i) → Put l₀ l (b * 64) test
-  put_joined l₀ l d test room s h =
-      put_done join_word l₀ l b test room (map_end join_word b 4 l (map_row join_word b 4 0 l₀) (omega arith) (omega arith) s.left) h
+  pub put_joined : (l₀ l : List ℕ) (d i : ℕ) (test : ℕ → Bool) → b + 4 ≤ length l₀ → 4 ≤ i → i ≤ 4 → Joining l₀ l d i
+      → ((j : ℕ) → j < block_ticks → bit (bit_or (get_or l₀ (b + j / 64) 0) (g (j / 64))) (j % 64) ≡ test j) → Put l₀ l (b * 64) test
+  put_joined l₀ l d i test room past most s h =
+      put_done join_word l₀ l b test room (map_end join_word b i l (map_row join_word b 4 0 l₀) past most s.left) h

@@ -2,14 +2,15 @@
 -- Assumes nothing.
 use Rattle.std.proofs.Common.{◌≡◌, ℕ, zero, suc, ◌+◌, ◌-◌, ◌*◌, ◌/◌, ◌%◌, ◌^◌, ◌<◌, ◌≤◌, Bool, true, false, ◌&&◌, ◌||◌, eqb, ltb, List, length, get_or, set, sym, refl, ap, ◌∙◌, ap₂, add-zero, add-one, arith, length-set, get_or-set_other, get_or-set_same, ltb-false, ltb-true, eq-eqb, ne_eqb, eqb-true}
 use mathlib.Core.Bool.{false≢true, or-false, and_comm}
-use lib.Bits.{bit_and, bit_or, bit_xor, and_le_r}
+use lib.Bits.{bit_and, bit_or, bit_xor, and_le_r, xor_add_and}
+use Rattle.std.proofs.lemmas.Nat.{and_mask}
 use borrow.Author.Tests.{eqb-false}
 use Rattle.meaning.proofs.BasicsLaws.{decide, and_left, and_right, same_test}
 use Rattle.search_sizes.specs.Sizes.{block_words, block_ticks, blocks, window_words, window_ticks, row_words, row_ticks, ticks, block_start, span_limit}
 use Rattle.search_ticks.specs.Bits.{odd, bit, window_of, run_of, fill_of}
-use Rattle.search_ticks.specs.Rows.{at, has, Words, Grown, Put, Changed, join_four, new_four, pushed, waited, filled, Seeded}
+use Rattle.search_ticks.specs.Rows.{at, has, Words, Grown, Put, Changed, pushed, waited, filled, Seeded}
 use Rattle.search_ticks.proofs.BitLaws.{or_zero, bit_and_lem, bit_or_lem, bit_xor_lem, bit_shr, bit_rem, bit_scaled, bit_scaled_low, bit_past, bit_full, xor, fill_first, fill_next}
-use Rattle.search_ticks.proofs.RowLaws.{zero_bit, map_row, map_turn, map_end, put_done, window_at, grown_start, grown_turn, four_joined, put_joined}
+use Rattle.search_ticks.proofs.RowLaws.{zero_bit, map_row, map_turn, map_end, put_done, window_at, grown_start, grown_turn, Joining, put_joined}
 
 -- ---- places
 
@@ -154,56 +155,64 @@ later_bit l from span b a r i fit digit few e =
 
 -- what the row of k from word c on has of the ticks that come, by windows from bit r of word a on
 unfoldable pub come_word : List ℕ → List ℕ → ℕ → ℕ → ℕ → ℕ → ℕ
-come_word l k a c r i = bit_and (window_of (get_or l (a + i) 0) (get_or l (a + (i + 1)) 0) r) (get_or k (c + i) 0)
+come_word l k a c r i = bit_and (window_of (get_or l (a + i) 0) (get_or l (a + i + 1) 0) r) (get_or k (c + i) 0)
 
 come_bit : (l k : List ℕ) (from m span block a c r i : ℕ) → Words l → r < 64 → span ≤ span_limit
     → a * 64 + r + span ≡ from * row_ticks + block_start block → c * 64 ≡ m * block_ticks
     → bit (come_word l k a c r (i / 64)) (i % 64) ≡ (has l from (block_start block + i - span) && at k (m * block_ticks + i))
 unfolding come_word
 come_bit l k from m span block a c r i fit digit short read mask =
-    let next : a + (i / 64 + 1) ≡ a + i / 64 + 1 = omega arith in
-    bit_and_lem (i % 64) (window_of (get_or l (a + i / 64) 0) (get_or l (a + (i / 64 + 1)) 0) r) (get_or k (c + i / 64) 0)
+    bit_and_lem (i % 64) (window_of (get_or l (a + i / 64) 0) (get_or l (a + i / 64 + 1) 0) r) (get_or k (c + i / 64) 0)
     ∙ ap₂ (λ (x y : Bool). x && y)
-    (ap (λ (x : ℕ). bit (window_of (get_or l (a + i / 64) 0) (get_or l x 0) r) (i % 64)) next ∙ later_bit l from span block a r i fit digit short read)
+    (later_bit l from span block a r i fit digit short read)
     (word_bit k c i ∙ ap (at k) (omega arith))
 
--- w is the window of words p and q
-abbrev pub IsWindow : List ℕ → ℕ → ℕ → ℕ → ℕ → Type 0
-IsWindow l r p q w = w ≡ window_of (get_or l p 0) (get_or l q 0) r
+-- the words below i that have come
+pub record Come (l k : List ℕ) (a c r : ℕ) (x : List ℕ) (i : ℕ) : Type 0 where
+  pub sized : length x ≡ block_words
+  pub words : (j : ℕ) → j < i → get_or x j 0 ≡ come_word l k a c r j
 
-pub push_done : (l₀ l k : List ℕ) (from to m span block a b c r d w₀ w₁ w₂ w₃ : ℕ) → Words l₀ → b + block_words ≤ length l₀ → block < blocks
-    → r < 64 → span ≤ span_limit → a * 64 + r + span ≡ from * row_ticks + block_start block → b * 64 ≡ to * row_ticks + block_start block
-    → c * 64 ≡ m * block_ticks
-    → IsWindow l₀ r a (a + 1) w₀ → IsWindow l₀ r (a + 1) (a + 2) w₁ → IsWindow l₀ r (a + 2) (a + 3) w₂ → IsWindow l₀ r (a + 3) (a + 4) w₃
-    → l ≡ join_four l₀ b (bit_and w₀ (get_or k c 0)) (bit_and w₁ (get_or k (c + 1) 0)) (bit_and w₂ (get_or k (c + 2) 0)) (bit_and w₃ (get_or k (c + 3) 0))
-    → d ≡ new_four l₀ b (bit_and w₀ (get_or k c 0)) (bit_and w₁ (get_or k (c + 1) 0)) (bit_and w₂ (get_or k (c + 2) 0)) (bit_and w₃ (get_or k (c + 3) 0))
-    → Changed l₀ l to block (pushed l₀ k from to m span block) × Grown l₀ l d
+pub come_turn : (l k : List ℕ) (a c r : ℕ) (x : List ℕ) (i w : ℕ) → i < block_words → w ≡ window_of (get_or l (a + i) 0) (get_or l (a + i + 1) 0) r
+    → Come l k a c r x i → Come l k a c r (set x i (bit_and w (get_or k (c + i) 0))) (i + 1)
 unfolding come_word
-push_done l₀ l k from to m span block a b c r d w₀ w₁ w₂ w₃ fit room few digit short read write mask e₀ e₁ e₂ e₃ e n =
-    let done = rw (add-zero a, add-zero c) at (four_joined (come_word l₀ k a c r) b l₀ room) in
-    rw (e, n, e₀, e₁, e₂, e₃) (
-      changed_of_put to block few write
-          (put_joined (come_word l₀ k a c r) b l₀ _ _ (pushed l₀ k from to m span block) room done
-          (λ j h.
-          bit_or_lem (j % 64) (get_or l₀ (b + j / 64) 0) (come_word l₀ k a c r (j / 64))
-          ∙ ap₂ (λ (x y : Bool). x || y) (row_bit l₀ to b (block_start block) j write) (come_bit l₀ k from m span block a c r j fit digit short read mask))),
-      done.grown,
-    )
+come_turn l k a c r x i w room e h =
+    record {
+      sized = length-set x i _ ∙ h.sized;
+      words = λ j lt.
+          decide (eqb j i)
+          (λ u. let same : j ≡ i = eqb-true j i u in rw (same, e) (get_or-set_same x i _ 0 (omega (arith, h.sized))))
+          (λ u. let other : j ≡ i → ⊥ = eqb-false j i u in get_or-set_other x i j _ 0 other ∙ h.words j (omega arith));
+    }
+
+pub push_done : (l₀ l k : List ℕ) (from to m span block a b c r d i : ℕ) → Words l₀ → b + block_words ≤ length l₀ → block < blocks
+    → r < 64 → span ≤ span_limit → a * 64 + r + span ≡ from * row_ticks + block_start block → b * 64 ≡ to * row_ticks + block_start block
+    → c * 64 ≡ m * block_ticks → block_words ≤ i → i ≤ block_words → Joining (come_word l₀ k a c r) b l₀ l d i
+    → Changed l₀ l to block (pushed l₀ k from to m span block)
+push_done l₀ l k from to m span block a b c r d i fit room few digit short read write mask past most s =
+    changed_of_put to block few write
+    (put_joined (come_word l₀ k a c r) b l₀ l d i (pushed l₀ k from to m span block) room past most s
+    (λ j h.
+    bit_or_lem (j % 64) (get_or l₀ (b + j / 64) 0) (come_word l₀ k a c r (j / 64))
+    ∙ ap₂ (λ (x y : Bool). x || y) (row_bit l₀ to b (block_start block) j write) (come_bit l₀ k from m span block a c r j fit digit short read mask)))
 
 -- ---- what a push could set
 
 abbrev pub full : ℕ
 full = 18446744073709551615
 
+-- `!w`, as bits
+pub not_is_xor : (w : ℕ) → w < 2 ^ 64 → full - w ≡ bit_xor w full
+not_is_xor w h = omega (arith, xor_add_and w full, and_mask w 64)
+
 unfoldable pub news_word : List ℕ → List ℕ → ℕ → ℕ → ℕ → ℕ → ℕ → ℕ
-news_word l f a b d r i = bit_and (bit_and (window_of (get_or l (a + i) 0) (get_or l (a + i + 1) 0) r) (get_or f (d + i) 0)) (bit_xor (get_or l (b + i) 0) full)
+news_word l f a b d r i = bit_and (bit_and (window_of (get_or l (a + i) 0) (get_or l (a + i + 1) 0) r) (get_or f (d + i) 0)) (full - get_or l (b + i) 0)
 
 pub news_turn : (l f : List ℕ) (a b d r i all y : ℕ) → y ≡ window_of (get_or l (a + i) 0) (get_or l (a + i + 1) 0) r
-    → (all ≡ 0 → Zeros (news_word l f a b d r) i) → bit_or all (bit_and (bit_and y (get_or f (d + i) 0)) (bit_xor (get_or l (b + i) 0) full)) ≡ 0
+    → (all ≡ 0 → Zeros (news_word l f a b d r) i) → bit_or all (bit_and (bit_and y (get_or f (d + i) 0)) (full - get_or l (b + i) 0)) ≡ 0
     → Zeros (news_word l f a b d r) (i + 1)
 unfolding news_word
 news_turn l f a b d r i all y e h z =
-    zeros_more (news_word l f a b d r) i all h (ap (λ (w : ℕ). bit_or all (bit_and (bit_and w (get_or f (d + i) 0)) (bit_xor (get_or l (b + i) 0) full))) (sym e) ∙ z)
+    zeros_more (news_word l f a b d r) i all h (ap (λ (w : ℕ). bit_or all (bit_and (bit_and w (get_or f (d + i) 0)) (full - get_or l (b + i) 0))) (sym e) ∙ z)
 
 no_new : (come free old : Bool) → (come && free && xor old true) ≡ false → come ≡ true → free ≡ true → old ≡ true
 no_new true true true e p q = refl
@@ -228,8 +237,9 @@ news_done l f from to c span block a b d r n fit digit short read old_at free_at
     (ap (at f) (omega arith) ∙ sym (word_bit f d i))
     ∙ sym (bit_and_lem (i % 64) come free))
     (ap₂ xor (sym (row_bit l to b (block_start block) i old_at)) (sym (bit_full 64 (i % 64) (omega arith)))
-    ∙ sym (bit_xor_lem (i % 64) old full))
-    ∙ sym (bit_and_lem (i % 64) (bit_and come free) (bit_xor old full))
+    ∙ sym (bit_xor_lem (i % 64) old full)
+    ∙ sym (ap (λ (w : ℕ). bit w (i % 64)) (not_is_xor old (fit (b + i / 64)))))
+    ∙ sym (bit_and_lem (i % 64) (bit_and come free) (full - old))
     ∙ ap (λ (w : ℕ). bit w (i % 64)) (z (i / 64) (omega arith))
     ∙ zero_bit (i % 64))
 

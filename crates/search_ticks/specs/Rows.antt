@@ -1,7 +1,7 @@
 -- Sets of ticks as bits of words of 64, and what the functions over them do to these sets. A row has 1280 positions: tick t is at
 -- position 256 + t (see search_sizes). A list of words has rows one after the other.
 -- Assumes nothing.
-use Rattle.std.specs.Prelude.{◌≡◌, ℕ, zero, suc, ◌+◌, ◌-◌, ◌*◌, ◌/◌, ◌%◌, ◌^◌, ◌<◌, ◌≤◌, Bool, ◌&&◌, ◌||◌, List, [], ◌∷◌, length, ◌==◌, ◌≢◌, bit_or, bit_xor, slice_index, slice_set}
+use Rattle.std.specs.Prelude.{◌≡◌, ℕ, zero, suc, ◌+◌, ◌-◌, ◌*◌, ◌/◌, ◌%◌, ◌^◌, ◌<◌, ◌≤◌, Bool, ◌&&◌, ◌||◌, List, [], ◌∷◌, length, ◌==◌, ◌≢◌, slice_index}
 use Rattle.search_sizes.specs.Sizes.{block_ticks, window_ticks, row_ticks, block_start}
 use Rattle.search_ticks.specs.Bits.{bit}
 
@@ -27,23 +27,6 @@ pub record Grown (l₀ l : List ℕ) (d : ℕ) : Type 0 where
   pub same : d ≡ 0 → l ≡ l₀
   pub more : 0 < d → total l₀ < total l
   pub sized : length l ≡ length l₀
-
--- ---- four words joined with others
-
--- the four words from place b on joined with others
-unfoldable pub join_four : List ℕ → ℕ → ℕ → ℕ → ℕ → ℕ → List ℕ
-join_four l b x₀ x₁ x₂ x₃ =
-    slice_set (slice_set (slice_set (slice_set l b (bit_or (slice_index l b) x₀)) (b + 1) (bit_or (slice_index l (b + 1)) x₁)) (b + 2) (bit_or (slice_index l (b + 2)) x₂)) (b + 3)
-    (bit_or (slice_index l (b + 3)) x₃)
-
--- the bits of x that are not in w
-abbrev pub new_bits : ℕ → ℕ → ℕ
-new_bits w x = bit_xor (bit_or w x) w
-
--- the new bits of the four words, all together
-unfoldable pub new_four : List ℕ → ℕ → ℕ → ℕ → ℕ → ℕ → ℕ
-new_four l b x₀ x₁ x₂ x₃ =
-    bit_or (bit_or (bit_or (new_bits (slice_index l b) x₀) (new_bits (slice_index l (b + 1)) x₁)) (new_bits (slice_index l (b + 2)) x₂)) (new_bits (slice_index l (b + 3)) x₃)
 
 -- ---- a block of bits changed
 

@@ -4,7 +4,7 @@
 ghost use Rattle.std.specs.Prelude.{◌≡◌, ℕ, ◌+◌, ◌-◌, ◌*◌, ◌<◌, ◌≤◌, true, false, length};
 ghost use Rattle.search_sizes.specs.Sizes.{block_words, block_ticks, blocks, window_words, window_ticks, row_words, ticks, block_start, span_limit};
 ghost use Rattle.search_ticks.specs.Bits.{window_of, fill_of};
-ghost use Rattle.search_ticks.specs.Rows.{at, has, Grown, Changed, join_four, new_four, pushed, filled, Seeded};
+ghost use Rattle.search_ticks.specs.Rows.{at, has, Grown, Changed, pushed, filled, Seeded};
 
 use search_sizes::{BLOCK_TICKS, BLOCK_WORDS, ROW_WORDS, WINDOW_WORDS};
 
@@ -23,8 +23,7 @@ fn fill_word(f: u64, x: u64, c: u64) -> u64
     ensures { result ≡ fill_of f x c }
 {
     let y = (x | c) & f;
-    let sum = std::num::wrapping_add_u64(f, y);
-    ((sum ^ f) | y) & f
+    ((f.wrapping_add(y) ^ f) | y) & f
 }
 
 // ---- rows
@@ -44,28 +43,27 @@ pub fn seed(l: &mut [u64], s: usize, t: usize)
     ensures { Seeded l.old l.new s t }
 {
     let place = s * ROW_WORDS + BLOCK_WORDS + t / 64;
-    l[place] = l[place] | (1 << (t % 64));
+    l[place] |= 1 << (t % 64);
 }
 
 // ---- a block of a row, and the one before it
 
-// The union of the words of row s in the block and the one before it: 0 only if both are empty.
+// The union of the words of row s in the block and the one before it: 0 only if both are empty. A word and no bool, as `news` too: still to
+// do, together with their callers.
 pub fn window_union(l: &[u64], s: usize, block: usize) -> u64
     requires { (s * row_words + row_words ≤ length l.now) × (block < blocks) }
     ensures { result ≡ 0 → ((i : ℕ) → i < window_ticks → has l.now s (block_ticks * block + i) ≡ false) }
 {
     let a = s * ROW_WORDS + block * BLOCK_WORDS;
     let mut all: u64 = 0;
-    let mut i = 0;
-    while i < WINDOW_WORDS {
-        all = all | l[a + i];
-        i += 1;
+    for i in 0..WINDOW_WORDS {
+        all |= l[a + i];
     }
     all
 }
 
 // Sets in the block of row s what waits reach, where row c of f has the free ticks of the block and the one before it.
-// Answers the bits that were new, of all words together.
+// Answers the bits that were new, of all words together, as `push` does: a word and no bool, since callers note such words by `|`.
 pub fn fill(l: &mut [u64], f: &[u64], s: usize, c: usize, block: usize) -> u64
     requires row_words_in_bounds { (s * row_words + row_words ≤ length l.old) × (block < blocks) }
     requires window_words_in_bounds { c * window_words + window_words ≤ length f.now }
@@ -76,34 +74,15 @@ pub fn fill(l: &mut [u64], f: &[u64], s: usize, c: usize, block: usize) -> u64
     let b = c * WINDOW_WORDS + BLOCK_WORDS;
     let mut carry = (l[a - 1] & f[b - 1]) >> 63;
     let mut diff: u64 = 0;
-    let mut i = 0;
-    while i < BLOCK_WORDS {
+    for i in 0..BLOCK_WORDS {
         let old = l[a + i];
         let run = fill_word(f[b + i], old, carry);
         let new = old | run;
-        diff = diff | (new ^ old);
+        diff |= new ^ old;
         l[a + i] = new;
         carry = run >> 63;
-        i += 1;
     }
     diff
-}
-
-// Joins the four words of l from place b on with x0 to x3. Answers the bits that were new, of all words together.
-fn join_four(l: &mut [u64], b: usize, x0: u64, x1: u64, x2: u64, x3: u64) -> u64
-    requires { b + block_words ≤ length l.old }
-    ensures l_after { l.new ≡ join_four l.old b x0 x1 x2 x3 }
-    ensures value { result ≡ new_four l.old b x0 x1 x2 x3 }
-{
-    let y0 = l[b];
-    let y1 = l[b + 1];
-    let y2 = l[b + 2];
-    let y3 = l[b + 3];
-    l[b] = y0 | x0;
-    l[b + 1] = y1 | x1;
-    l[b + 2] = y2 | x2;
-    l[b + 3] = y3 | x3;
-    ((((y0 | x0) ^ y0) | ((y1 | x1) ^ y1)) | ((y2 | x2) ^ y2)) | ((y3 | x3) ^ y3)
 }
 
 // Sets in the block of row `to` the ticks of row `from`, `span` later, that row m of k has in the block. Answers the bits that were new.
@@ -126,16 +105,19 @@ pub fn push(
     let b = to * ROW_WORDS + block * BLOCK_WORDS + BLOCK_WORDS;
     let c = m * BLOCK_WORDS;
     let r = ((BLOCK_TICKS - span) % 64) as u64;
-    let w0 = l[a];
-    let w1 = l[a + 1];
-    let w2 = l[a + 2];
-    let w3 = l[a + 3];
-    let w4 = l[a + 4];
-    let x0 = window(w0, w1, r) & k[c];
-    let x1 = window(w1, w2, r) & k[c + 1];
-    let x2 = window(w2, w3, r) & k[c + 2];
-    let x3 = window(w3, w4, r) & k[c + 3];
-    join_four(l, b, x0, x1, x2, x3)
+    // All windows are read before the first store: the rows may be one.
+    let mut come = [0; BLOCK_WORDS];
+    for i in 0..BLOCK_WORDS {
+        come[i] = window(l[a + i], l[a + i + 1], r) & k[c + i];
+    }
+    let mut diff: u64 = 0;
+    for i in 0..BLOCK_WORDS {
+        let old = l[b + i];
+        let new = old | come[i];
+        diff |= new ^ old;
+        l[b + i] = new;
+    }
+    diff
 }
 
 // What a push could set: 0 only if row `to` has in the block every tick of row `from`, `span` later, at which row c of f is free.
@@ -159,11 +141,8 @@ pub fn news(
     let d = c * WINDOW_WORDS + BLOCK_WORDS;
     let r = ((BLOCK_TICKS - span) % 64) as u64;
     let mut all: u64 = 0;
-    let mut i = 0;
-    while i < BLOCK_WORDS {
-        all = all
-            | ((window(l[a + i], l[a + i + 1], r) & f[d + i]) & (l[b + i] ^ 18446744073709551615));
-        i += 1;
+    for i in 0..BLOCK_WORDS {
+        all |= (window(l[a + i], l[a + i + 1], r) & f[d + i]) & !l[b + i];
     }
     all
 }

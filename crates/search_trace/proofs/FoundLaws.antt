@@ -9,13 +9,15 @@ use mathlib.Core.List.{List, []}
 use borrow.Author.Tests.{le-leb, lt-leb, leb-true, leb-false, lt-ltb, le-ltb}
 use lib.Dec.{leb}
 use Rattle.meaning.specs.Basics.{every, least, is_zero}
-use Rattle.meaning.specs.Site.{Site, site_of}
-use Rattle.meaning.specs.Board.{Free, free}
+use Rattle.meaning.specs.Site.{Site}
+use Rattle.meaning.specs.Board.{Free}
 use Rattle.meaning.specs.Plan.{Node, node, can_unload}
 use Rattle.meaning.specs.WellFormed.{WellFormed}
 use Rattle.meaning.specs.Reach.{rows_to, trace, Route, ends_after, traced_route, route_in, find_route}
 use Rattle.meaning.proofs.BasicsLaws.{decide}
 use Rattle.meaning.proofs.ReachLaws.{word_row}
+use Rattle.site.specs.declared.hall.Hall.{Hall}
+use Rattle.site.specs.Halls.{site_in, free_in}
 use Rattle.search_ends.specs.Ends.{ends_on, First}
 use Rattle.search_ends.proofs.FirstLaws.{least_first}
 use Rattle.search_back.specs.Words.{ReachedTo}
@@ -91,14 +93,14 @@ module _ (site : Site) (f : Free) (start tick goal dwell horizon r : ℕ) (well 
 
 -- ---- what `trace_back` requires
 
-pub arrival_found : (file board re : List ℕ) (start tick goal dwell horizon r : ℕ) → WellFormed (site_of file) → (site_of file).horizon ≡ horizon → tick ≤ horizon
-    → First (ends_on (site_of file) (free (site_of file) board) (node start tick) goal dwell) tick (horizon + 1) r → r ≤ horizon
-    → ReachedTo (site_of file) (free (site_of file) board) (node start tick) r re
-    → Found (record { start = start; dwell = dwell; route = route_after (site_of file) (free (site_of file) board) (node start tick) goal (r - tick) }) file board re tick goal r
-arrival_found file board re start tick goal dwell horizon r well same early first in_time rows =
+pub arrival_found : (hall : Hall) (re : List ℕ) (start tick goal dwell horizon r : ℕ) → WellFormed (site_in hall) → (site_in hall).horizon ≡ horizon → tick ≤ horizon
+    → First (ends_on (site_in hall) (free_in hall) (node start tick) goal dwell) tick (horizon + 1) r → r ≤ horizon
+    → ReachedTo (site_in hall) (free_in hall) (node start tick) r re
+    → Found (record { start = start; dwell = dwell; route = route_after (site_in hall) (free_in hall) (node start tick) goal (r - tick) }) hall re tick goal r
+arrival_found hall re start tick goal dwell horizon r well same early first in_time rows =
     let late = first.above in
     record {
       reached = rows;
-      found = route_there (site_of file) (free (site_of file) board) start tick goal dwell horizon r well same early first in_time;
+      found = route_there (site_in hall) (free_in hall) start tick goal dwell horizon r well same early first in_time;
       on_tick = omega arith;
     }

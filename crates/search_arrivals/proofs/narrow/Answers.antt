@@ -5,4 +5,4 @@ use native.Mathlib.Omega.{arith}
 use Rattle.search_arrivals.proofs.narrow.Goals as goal
 
 pub returns : goal.returns
-returns c = narrowing_end _ _ _ _ _ _ (λ i. (c.type_inv.tab i).fits) c.requires.1 (omega arith) c.loop-i.invariant.1
+returns c = narrowing_end _ _ _ _ _ _ (λ i. (c.type_inv.tab i).fits) c.requires.1 (omega arith) c.loop-i.invariant

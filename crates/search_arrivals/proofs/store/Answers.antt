@@ -1,11 +1,8 @@
--- `search_arrivals::store` meets its contract: what is left of the loop gives the whole row.
+-- `search_arrivals::store` meets its contract: the four words stand in the place of the row's.
 -- Assumes nothing.
-use Rattle.search_arrivals.proofs.WordLaws.{storing_turn, storing_end}
+use Rattle.search_arrivals.proofs.WordLaws.{put_words}
 use native.Mathlib.Omega.{arith}
 use Rattle.search_arrivals.proofs.store.Goals as goal
 
-pub loop-i-preserved : goal.loop-i-preserved
-loop-i-preserved c = (omega arith, storing_turn _ _ _ _ _ (omega arith) c.loop-i.invariant.1)
-
 pub returns : goal.returns
-returns c = storing_end _ _ _ _ _ c.requires (omega arith) (omega arith) c.loop-i.invariant.1
+returns c = put_words _ _ _ _ _ c.requires c.told-x (omega arith) c.copy_from_slice.ensures.after

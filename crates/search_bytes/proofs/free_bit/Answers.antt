@@ -1,16 +1,11 @@
--- `search_bytes::free_bit` meets its contract: by cases of the byte.
+-- `search_bytes::free_bit` meets its contract: it is 1 where the byte is 0.
 -- Assumes nothing.
-use Rattle.std.proofs.Common.{ℕ, arith, sym, ap, ◌∙◌, Bool, cond}
+use Rattle.std.proofs.Common.{ap, ◌∙◌, eqb}
+use Rattle.std.specs.Int.{from_bool}
+use Rattle.meaning.proofs.BasicsLaws.{decide}
 use Rattle.search_bytes.specs.Words.{free_bit}
 use Rattle.search_bytes.proofs.free_bit.Goals as goal
 
-abbrev bit : Bool → ℕ
-bit free = cond free 1 0
-
-pub returns-then-is_free_byte : goal.returns-then-is_free_byte
+pub returns-clause-value : goal.returns-clause-value
 unfolding free_bit
-returns-then-is_free_byte c = record { value = ap bit (sym c.if-is_free_byte.true ∙ c.is_free_byte.ensures); upper_bound = omega arith }
-
-pub returns-else-is_free_byte : goal.returns-else-is_free_byte
-unfolding free_bit
-returns-else-is_free_byte c = record { value = ap bit (sym c.if-is_free_byte.false ∙ c.is_free_byte.ensures); upper_bound = omega arith }
+returns-clause-value c = c.from.ensures ∙ ap from_bool c.is_free_byte.ensures ∙ decide (eqb c.args.b 0) (λ e. rw e) (λ e. rw e)

@@ -7,4 +7,4 @@ use Rattle.search_bytes.proofs.turn.Goals as goal
 pub returns : goal.returns
 unfolding turned_of
 returns c = c.exchange.ensures
-    ∙ ap (exchanged 28 4042322160) (c.exchange-z.ensures ∙ ap (exchanged 14 225176545447116) c.exchange-y.ensures)
+    ∙ ap (exchanged 28 0xf0f0_f0f0) (c.exchange-z.ensures ∙ ap (exchanged 14 0x0000_cccc_0000_cccc) c.exchange-y.ensures)

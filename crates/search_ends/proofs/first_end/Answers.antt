@@ -1,18 +1,17 @@
--- `search_ends::first_end` meets its contract. The loop's invariant: no tick from low on and below t is an end.
+-- `search_ends::first_end` meets its contract.
 -- Assumes nothing.
-use Prim.Native.Nat.{◌-◌}
-use Rattle.search_ends.proofs.FirstLaws.{first_start, first_hit, first_miss, first_none}
-use native.Mathlib.Omega.{arith}
+use Prim.Native.Nat.{ℕ}
+use mathlib.Core.Path.{◌≡◌}
+use mathlib.Core.Bool.{true, false}
+use Rattle.std.proofs.Common.{rules}
+use Rattle.std.proofs.lemmas.Iterator.{first_from_Range}
+use Rattle.search_ends.specs.Ends.{ends_in}
+use Rattle.search_ends.proofs.FirstLaws.{first_found}
 use Rattle.search_ends.proofs.first_end.Goals as goal
 
-pub loop-t-init : goal.loop-t-init
-loop-t-init c = (omega arith, first_start _ _)
-
-pub returns-then-ends_at : goal.returns-then-ends_at
-returns-then-ends_at c = first_hit _ _ _ _ c.ends_at.ensures c.loop-t.invariant.1 _ (omega arith) c.if-ends_at.true
-
-pub loop-t-preserved : goal.loop-t-preserved
-loop-t-preserved c = (omega arith, first_miss _ _ _ _ c.ends_at.ensures c.loop-t.invariant.1 c.if-ends_at.false)
-
 pub returns : goal.returns
-returns c = first_none _ _ _ _ c.loop-t.invariant.0 (omega arith) c.loop-t.invariant.1
+returns c =
+    let test = ends_in c.args.reached.now c.args.ends.now c.args.goal in
+    rw c.unwrap_or.ensures
+    (first_found test c.args.low c.args.high c.requires.1.0 _
+    (first_from_Range _ _ _ _ (λ (i : ℕ). test i ≡ true) (λ (i : ℕ). test i ≡ false) c.find.ensures.ran (λ x q k. search rules) (λ x q k. (search rules, search rules))))

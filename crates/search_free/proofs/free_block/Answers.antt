@@ -6,4 +6,4 @@ use Rattle.search_free.proofs.free_block.Goals as goal
 
 pub returns : goal.returns
 returns c = let end = c.loop-c in
-    rows_done c.args.board.now c.args.cells c.args.horizon c.args.margin c.args.block c.args.tab.now _ end.c (omega arith) (omega arith) end.invariant.1
+    rows_done c.args.board.now c.args.cells c.args.horizon c.args.margin c.args.block c.args.tab.now _ end.c (omega arith) (omega arith) (omega arith) end.invariant

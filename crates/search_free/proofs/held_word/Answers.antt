@@ -4,4 +4,4 @@ use Rattle.search_free.proofs.MarginLaws.{held_bits}
 use Rattle.search_free.proofs.held_word.Goals as goal
 
 pub returns : goal.returns
-returns c = held_bits _ _ _ _ _ _ _ _ c.least-low.ensures c.least-high.ensures c.free_word.ensures c.present.ensures
+returns c = held_bits _ _ _ _ c.free_word.ensures c.present.ensures

@@ -1,59 +1,80 @@
 -- `search_plan::search` meets its contract: without a plan at once, or from the search.
 -- Assumes nothing.
 use native.Mathlib.Omega.{arith}
-use borrow.Author.Tests.{not-true, not-false}
 use Prim.Native.Nat.{ℕ, ◌+◌}
-use mathlib.Core.Path.{◌≡◌, sym, ap, ◌∙◌}
+use mathlib.Core.Bool.{Bool}
+use mathlib.Core.Path.{sym, ap, ◌∙◌}
 use Rattle.site.specs.declared.Sizes.{Sizes}
-use Rattle.meaning.specs.Site.{site_of, cell_of}
-use Rattle.meaning.specs.Board.{free}
-use Rattle.site_read.proofs.Laws.{read_laid}
-use Rattle.search_reach.specs.Explored.{EndsRight}
-use Rattle.search_plan.proofs.PartsLaws.{same_states, same_motions, ranges, row, start_is, ends_in_lem, start_held, never_unloads, needed}
+use Rattle.site.specs.Halls.{site_in, free_in}
+use Rattle.search_plan.proofs.PartsLaws.{same_states, same_motions, same_horizon, few, ranges, cell_below, start_held, never_unloads, needed}
 use Rattle.search_plan.proofs.search.Goals as goal
 
 pub state_cell-cell-requires : goal.state_cell-cell-requires
-state_cell-cell-requires c = let below = (ranges _ c.args.board.now _ _ c.requires).start_below in
-    (read_laid c.args.file.now _ c.requires.ready.read, omega (arith, same_states _ c.args.board.now _ _ c.requires))
+state_cell-cell-requires c =
+    let hall = c.args.hall.now in
+    omega (arith, (ranges hall c.args.trip c.requires).start_below, same_states hall)
+
+pub ticks_of-requires : goal.ticks_of-requires
+ticks_of-requires c =
+    let hall = c.args.hall.now in
+    cell_below hall c.args.trip.start _ (ranges hall c.args.trip c.requires).start_below c.state_cell-cell.ensures.0
 
 pub is_free-requires : goal.is_free-requires
-is_free-requires c = row _ c.args.board.now _ _ c.requires _ _ (ranges _ c.args.board.now _ _ c.requires).start_below c.state_cell-cell.ensures.0
+is_free-requires c =
+    let hall = c.args.hall.now in
+    omega (arith, c.ticks_of.ensures.horizon, (ranges hall c.args.trip c.requires).in_time, same_horizon hall)
 
 pub returns-then-not-is_free : goal.returns-then-not-is_free
 returns-then-not-is_free c =
-    let start_there : c.is_free.result ≡ free (site_of c.args.file.now) c.args.board.now (cell_of (site_of c.args.file.now) c.args.trip.start) c.args.trip.tick = start_is _ c.args.board.now _ _ c.requires _ _ c.state_cell-cell.ensures.0 c.is_free.ensures in
-    start_held _ c.args.board.now _ _ c.requires _ (start_there) c.if-not-is_free.true _
+    start_held c.args.hall.now c.args.trip c.requires _
+    (c.is_free.ensures ∙ ap (λ (f : ℕ → Bool). f c.args.trip.tick) (c.ticks_of.ensures.frees ∙ ap (free_in c.args.hall.now) c.state_cell-cell.ensures.0))
+    c.if-not-is_free.true _
 
 pub state_cell-dock-requires : goal.state_cell-dock-requires
-state_cell-dock-requires c = let below = (ranges _ c.args.board.now _ _ c.requires).goal_below in
-    (read_laid c.args.file.now _ c.requires.ready.read, omega (arith, same_states _ c.args.board.now _ _ c.requires))
+state_cell-dock-requires c =
+    let hall = c.args.hall.now in
+    omega (arith, (ranges hall c.args.trip c.requires).goal_below, same_states hall)
+
+pub ticks_of-at_dock-requires : goal.ticks_of-at_dock-requires
+ticks_of-at_dock-requires c =
+    let hall = c.args.hall.now in
+    cell_below hall c.args.trip.goal _ (ranges hall c.args.trip c.requires).goal_below c.state_cell-dock.ensures.0
 
 pub fill_ends-requires : goal.fill_ends-requires
-fill_ends-requires c = row _ c.args.board.now _ _ c.requires _ _ (ranges _ c.args.board.now _ _ c.requires).goal_below c.state_cell-dock.ensures.0
+fill_ends-requires c =
+    let hall = c.args.hall.now in
+    omega (arith, c.ticks_of-at_dock.ensures.horizon, (ranges hall c.args.trip c.requires).in_time, same_horizon hall)
 
 pub some_end-requires : goal.some_end-requires
-some_end-requires c = omega (arith, (ranges _ c.args.board.now _ _ c.requires).short)
+some_end-requires c = omega (arith, (few c.args.hall.now).short)
 
 pub returns-then-not-some_end : goal.returns-then-not-some_end
 returns-then-not-some_end c =
-    let ends_there : EndsRight (site_of c.args.file.now) (free (site_of c.args.file.now) c.args.board.now) c.args.trip.goal c.args.trip.dwell c.args.trip.tick c.fill_ends.new.ends = ends_in_lem _ c.args.board.now _ _ c.requires _ c.fill_ends.new.ends c.state_cell-dock.ensures.0 c.fill_ends.ensures in
-    never_unloads _ c.args.board.now _ _ c.requires c.fill_ends.new.ends (ends_there) (c.some_end.ensures c.if-not-some_end.true) _
+    let hall = c.args.hall.now in
+    never_unloads hall c.args.trip c.requires c.fill_ends.new.ends
+    (c.fill_ends.ensures (site_in hall) (free_in hall) c.args.trip.goal c.ticks_of-at_dock.ensures.horizon (c.ticks_of-at_dock.ensures.frees ∙ ap (free_in hall) c.state_cell-dock.ensures.0))
+    (c.some_end.ensures c.if-not-some_end.true) _
 
 pub longest_span-longest-requires : goal.longest_span-longest-requires
-longest_span-longest-requires c = let q = c.requires in
+longest_span-longest-requires c =
+    let hall = c.args.hall.now in
     record {
-      file_value = (q.ready.read, ap (λ (k : Sizes). k.start) q.ready.sizes);
-      count_value = same_motions _ c.args.board.now _ _ q;
+      file_value = (hall.ready.read, ap (λ (k : Sizes). k.start) hall.ready.sizes);
+      count_value = same_motions hall;
     }
 
-pub search_rows-requires : goal.search_rows-requires
-search_rows-requires c =
-    let start_there : c.is_free.result ≡ free (site_of c.args.file.now) c.args.board.now (cell_of (site_of c.args.file.now) c.args.trip.start) c.args.trip.tick = start_is _ c.args.board.now _ _ c.requires _ _ c.state_cell-cell.ensures.0 c.is_free.ensures in
-    let ends_there : EndsRight (site_of c.args.file.now) (free (site_of c.args.file.now) c.args.board.now) c.args.trip.goal c.args.trip.dwell c.args.trip.tick c.fill_ends.new.ends = ends_in_lem _ c.args.board.now _ _ c.requires _ c.fill_ends.new.ends c.state_cell-dock.ensures.0 c.fill_ends.ensures in
-    let table = c.table_of-tables.ensures in (
-      record { asked = c.requires; start_free_lem = sym (start_there) ∙ c.if-not-is_free.false; ends_right = ends_there },
-      needed c.args.file.now c.args.sizes _ _ c.longest_span-longest.ensures (ap (λ (n : ℕ). n + 1) table.0) (omega (arith, table.0, table.1)),
-    )
-
-pub returns : goal.returns
-returns c = c.search_rows.ensures
+pub invariant_of-query : goal.invariant_of-query
+invariant_of-query c =
+    let hall = c.args.hall.now in
+    let table = c.table_of.ensures in
+    record {
+      possible = record {
+        asked = c.requires;
+        start_free =
+            sym (c.is_free.ensures ∙ ap (λ (f : ℕ → Bool). f c.args.trip.tick) (c.ticks_of.ensures.frees ∙ ap (free_in hall) c.state_cell-cell.ensures.0))
+            ∙ c.if-not-is_free.false;
+        ends_right = c.fill_ends.ensures (site_in hall) (free_in hall) c.args.trip.goal c.ticks_of-at_dock.ensures.horizon
+            (c.ticks_of-at_dock.ensures.frees ∙ ap (free_in hall) c.state_cell-dock.ensures.0);
+      };
+      needed = needed _ _ c.longest_span-longest.ensures (ap (λ (n : ℕ). n + 1) table.0) (omega (arith, table.0, table.1));
+    }

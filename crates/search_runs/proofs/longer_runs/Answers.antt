@@ -10,14 +10,11 @@ overflow_sub-back c = omega (arith, (lengths_from c.args.t (omega arith) (omega 
 pub longer_row-requires : goal.longer_row-requires
 longer_row-requires c = let gr = lengths_from c.args.t (omega arith) (omega arith) in (
   omega (arith, rows_from c.args.t c.args.cells (omega arith)),
-  (omega (arith, rows_to_lem c.args.t c.args.cells, c.loop-c.invariant.1.0), (omega (arith, gr.longer), omega (arith, gr.near))),
+  (omega (arith, rows_to_lem c.args.t c.args.cells, c.loop-c.invariant.0), (omega (arith, gr.longer), omega (arith, gr.near))),
 )
 
 pub loop-c-preserved : goal.loop-c-preserved
 loop-c-preserved c = (
-  omega arith,
-  (
-    c.longer_row.ensures.sized ∙ c.loop-c.invariant.1.0,
-    λ g tables b lt h w. lengthening_turn g _ tables b _ _ _ _ _ c.requires.le_t.0 c.requires.le_t.1.0 lt (omega arith) (omega arith) c.longer_row.ensures (c.loop-c.invariant.1.1 g tables b lt h w),
-  ),
+  c.longer_row.ensures.sized ∙ c.loop-c.invariant.0,
+  λ g tables b lt h w. lengthening_turn g _ tables b _ _ _ _ _ c.requires.le_t.0 c.requires.le_t.1.0 lt (omega arith) (omega arith) c.longer_row.ensures (c.loop-c.invariant.1 g tables b lt h w),
 )

@@ -5,7 +5,7 @@ use Rattle.search_runs.proofs.WordLaws.{shift_turn, shift_done}
 use Rattle.search_runs.proofs.shift_row.Goals as goal
 
 pub loop-i-preserved : goal.loop-i-preserved
-loop-i-preserved c = (omega arith, shift_turn _ _ _ _ (omega arith) c.loop-i.invariant.1)
+loop-i-preserved c = shift_turn _ _ _ _ (omega arith) c.loop-i.invariant
 
 pub returns : goal.returns
-returns c = shift_done _ _ _ _ c.requires (omega arith) (omega arith) c.loop-i.invariant.1
+returns c = shift_done _ _ _ _ c.requires (omega arith) (omega arith) c.loop-i.invariant

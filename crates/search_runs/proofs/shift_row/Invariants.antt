@@ -1,12 +1,7 @@
 -- `search_runs::shift_row` meets its contract: what is left of the loop gives the whole row.
 -- Assumes nothing.
-use Rattle.std.proofs.Common.{◌-◌, ◌≤◌}
-use Rattle.search_sizes.specs.Sizes.{block_words}
 use Rattle.search_runs.proofs.WordLaws.{Writing, shift_word}
 use Rattle.search_runs.proofs.shift_row.Given as goal
 
 abbrev pub invariant-loop-i : goal.invariant-loop-i
-invariant-loop-i l = (l.i ≤ block_words) × Writing (shift_word l.initial.tab l.a) l.a l.initial.tab l.tab l.i
-
-abbrev pub decreases-loop-i : goal.decreases-loop-i
-decreases-loop-i l = block_words - l.i
+invariant-loop-i l = Writing (shift_word l.initial.tab l.a) l.a l.initial.tab l.tab l.i

@@ -3,16 +3,16 @@
 use Rattle.search_spread.proofs.WalkLaws.{state_empty, state_steps}
 use Rattle.search_spread.proofs.spread_one.Goals as goal
 
-pub returns-then-window_union-eq0-clause-stepped : goal.returns-then-window_union-eq0-clause-stepped
-returns-then-window_union-eq0-clause-stepped c =
+pub returns-then-window_union-eq0-clause-steps : goal.returns-then-window_union-eq0-clause-steps
+returns-then-window_union-eq0-clause-steps c =
     let a = c.args in
-    state_empty a.known.now a.allowed.now a.reached.now a.grown.now a.lists.now a.s
-    c.requires.sweeps.1.1 c.requires.states.1.1.0 (c.window_union.ensures c.if-window_union-eq0.true)
+    state_empty a.notes.now.known.now a.notes.now.allowed.now a.reached.now a.notes.now.grown.now a.lists.now a.s
+    a.block.now.in_range a.block.now.network.motions_read (c.window_union.ensures c.if-window_union-eq0.true)
 
-pub returns-clause-stepped : goal.returns-clause-stepped
-returns-clause-stepped c =
+pub returns-clause-steps : goal.returns-clause-steps
+returns-clause-steps c =
     let a = c.args in
     let waited = c.wait_one in
     let moved = c.move_from in
-    state_steps waited.new.reached a.grown.now moved.new.grown a.lists.now a.s waited.result c.requires.sweeps.1.1 c.requires.states.1.1.1.1
-    waited.ensures.row_set waited.ensures.by_index moved.ensures.stepped moved.ensures.grown_len_unchanged.1
+    state_steps waited.new.reached a.notes.now.grown.now moved.new.notes.grown.now a.lists.now a.s waited.result a.block.now.in_range c.requires.s_in_bounds.0
+    waited.ensures.row_set waited.ensures.closed moved.ensures.steps moved.ensures.grown_len_unchanged.1

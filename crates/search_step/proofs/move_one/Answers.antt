@@ -5,15 +5,18 @@ use native.Mathlib.Omega.{arith}
 use mathlib.Core.Path.{sym, ◌∙◌}
 use Rattle.search_step.proofs.StepLaws.{quiet_closed, Prepared, prepared_known, push_set, push_within, push_closed}
 use Rattle.search_step.proofs.move_one.Goals as goal
-use Rattle.search_step.proofs.move_one.Goals.{then-known-m-eq0+else-news-eq0, else-known-m-eq0}
+use Rattle.search_step.proofs.move_one.Goals.{then-not-known-m+else-news-eq0, else-not-known-m}
 
-pub returns-then-news-eq0-clause-by_index : goal.returns-then-news-eq0-clause-by_index
-returns-then-news-eq0-clause-by_index c g right ready =
+pub returns-then-news-eq0-clause-closed : goal.returns-then-news-eq0-clause-closed
+returns-then-news-eq0-clause-closed c g right ready =
     let a = c.args in
-    let lt = c.requires.states.1.1.1.1 in
+    let block = a.block.now in
+    let network = block.network in
+    let lt = c.requires.m_in_bounds in
     let is_to = c.to_of-to.ensures in
     -- the cell of the state to which the motion leads
-    let cell_known : c.cell_of-cell.result < a.cells = omega (arith, c.cell_of-cell.ensures, c.requires.states.1.0 c.to_of-to.result (omega (arith, is_to, c.requires.states.1.1.1.0.to a.m lt))) in (
+    let cell_known : c.cell_of-cell.result < network.cell_count
+    = omega (arith, c.cell_of-cell.ensures, network.cells_known c.to_of-to.result (omega (arith, is_to, network.motions_lead.to a.m lt))) in (
       ready,
       (
         λ R closed inside. inside,
@@ -26,42 +29,46 @@ returns-then-news-eq0-clause-by_index c g right ready =
 pub returns-clause-row_set : goal.returns-clause-row_set
 returns-clause-row_set c =
     let a = c.args in
-    let span = c.requires.states.1.1.0.span a.m c.requires.states.1.1.1.1 in
+    let block = a.block.now in
+    let network = block.network in
+    let span = network.motions_read.span a.m c.requires.m_in_bounds in
     let is_span = c.span_of-span.ensures in
     let done = c.push.ensures in
-    push_set a.motions.now a.reached.now c.push.new.l c.if-known-m-eq0.allowed a.block a.m c.from_of-from.result c.to_of-to.result c.span_of-span.result
-    c.requires.sweeps.1.1 c.from_of-from.ensures c.to_of-to.ensures is_span (omega (arith, span, is_span)) done.changed _ done.grown
+    push_set network.motions.now a.reached.now c.push.new.l c.if-not-known-m.allowed block.number a.m c.from_of-from.result c.to_of-to.result c.span_of-span.result
+    block.in_range c.from_of-from.ensures c.to_of-to.ensures is_span (omega (arith, span, is_span)) done.changed c.push.result done.grown
 
-pub returns-clause-by_index : goal.returns-clause-by_index
-returns-clause-by_index c g right ready =
+pub returns-clause-closed : goal.returns-clause-closed
+returns-clause-closed c g right ready =
     let a = c.args in
-    let mv = a.motions.now in
+    let block = a.block.now in
+    let network = block.network in
+    let mv = network.motions.now in
     let m = a.m in
-    let lt = c.requires.states.1.1.1.1 in
-    let al = c.if-known-m-eq0.allowed in
-    let known = c.if-known-m-eq0.known in
-    let joined : Prepared a.cells a.n a.k a.block m a.states.now mv a.sweeps.now a.tab.now a.known.now a.allowed.now known al =
-    elim c.if-known-m-eq0.branch [
-      | then-known-m-eq0+else-news-eq0 w ↦ rw (w.allowed-is, w.known-is)
-          (record { sized = w.prepare.ensures.allowed_len_unchanged; rows = λ g right ready. w.prepare.ensures.by_index g a.n a.block a.states.now right ready })
-      | else-known-m-eq0 w ↦ prepared_known a.cells a.n a.k a.block m a.states.now mv a.sweeps.now a.tab.now a.known.now a.allowed.now known al
-          lt w.if-known-m-eq0.false w.allowed-is w.known-is
+    let lt = c.requires.m_in_bounds in
+    let al = c.if-not-known-m.allowed in
+    let known = c.if-not-known-m.known in
+    let joined : Prepared network.cell_count network.state_count network.motion_count block.number m network.states.now mv network.sweeps.now block.tab.now a.known.now a.allowed.now known al =
+    elim c.if-not-known-m.branch [
+      | then-not-known-m+else-news-eq0 w ↦ rw (w.allowed-is, w.known-is)
+          (record { sized = w.prepare.ensures.allowed_len_unchanged; rows = λ g right ready. w.prepare.ensures.ready g right ready })
+      | else-not-known-m w ↦ prepared_known network.cell_count network.state_count network.motion_count block.number m network.states.now mv network.sweeps.now block.tab.now a.known.now a.allowed.now known al
+          lt w.if-not-known-m.false w.allowed-is w.known-is
     ] in
     let rows = joined.rows g right ready in
     let is_from = c.from_of-from.ensures in
     let is_to = c.to_of-to.ensures in
     let is_span = c.span_of-span.ensures in
-    let span = c.requires.states.1.1.0.span m lt in
+    let span = network.motions_read.span m lt in
     let changed = c.push.ensures.changed in
     let l' = c.push.new.l in
     let from = c.from_of-from.result in
     let to = c.to_of-to.result in (
       rows.0,
       (
-        push_within mv a.reached.now l' al a.block m from to c.span_of-span.result
-            c.requires.sweeps.1.1 is_from is_to is_span (omega (arith, span, is_span)) changed a.sweeps.now g rows.1,
-        push_closed mv a.reached.now l' al a.block m from to c.span_of-span.result
-            c.requires.sweeps.1.1 is_from is_to is_span (omega (arith, span, is_span)) changed a.sweeps.now g rows.1
-            (λ same. c.requires.states.1.1.1.0.apart m lt (sym is_from ∙ same ∙ is_to)),
+        push_within mv a.reached.now l' al block.number m from to c.span_of-span.result
+            block.in_range is_from is_to is_span (omega (arith, span, is_span)) changed network.sweeps.now g rows.1,
+        push_closed mv a.reached.now l' al block.number m from to c.span_of-span.result
+            block.in_range is_from is_to is_span (omega (arith, span, is_span)) changed network.sweeps.now g rows.1
+            (λ same. network.motions_lead.apart m lt (sym is_from ∙ same ∙ is_to)),
       ),
     )

@@ -10,10 +10,10 @@ pub returns-clause-row_set : goal.returns-clause-row_set
 returns-clause-row_set c =
     let a = c.args in
     let filled = c.fill.ensures in
-    fill_set a.reached.now c.fill.new.l a.tab.now a.block a.s c.cell_of-cell.result (omega arith) filled.changed _ filled.grown
+    fill_set a.reached.now c.fill.new.l a.tab.now a.block a.s c.cell_of-cell.result (omega arith) filled.changed c.fill.result filled.grown
 
-pub returns-clause-by_index : goal.returns-clause-by_index
-returns-clause-by_index c g k mv sw right =
+pub returns-clause-closed : goal.returns-clause-closed
+returns-clause-closed c g k mv sw right =
     let a = c.args in
     let stands : speed_at a.states.now a.s ≡ 0 = omega arith in
     let is_cell = c.cell_of-cell.ensures in

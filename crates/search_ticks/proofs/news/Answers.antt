@@ -5,9 +5,9 @@ use Rattle.search_ticks.proofs.SetLaws.{news_turn, news_done}
 use Rattle.search_ticks.proofs.news.Goals as goal
 
 pub loop-i-preserved : goal.loop-i-preserved
-loop-i-preserved c = (omega arith, news_turn _ _ _ _ _ _ _ _ _ c.window.ensures c.loop-i.invariant.1)
+loop-i-preserved c = news_turn _ _ _ _ _ _ _ _ _ c.window.ensures c.loop-i.invariant
 
 pub returns : goal.returns
 returns c = λ e. news_done c.args.l.now c.args.f.now c.args.from c.args.to c.args.c c.args.span c.args.block _ _ _ _ _
     (λ j. search rules) (omega arith) (omega arith) (omega arith) (omega arith) (omega arith) (omega arith)
-    (c.loop-i.invariant.1 e)
+    (c.loop-i.invariant e)
