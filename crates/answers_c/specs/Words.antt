@@ -1,20 +1,19 @@
 -- The word that a call for C returns, and how its caller reads the number and the values back (include/dispatch.h says the same).
 -- Assumes nothing.
-use Rattle.std.specs.Prelude.{ℕ, zero, suc, ◌+◌, ◌*◌, ◌/◌, ◌%◌, List, [], ◌∷◌}
-use Rattle.answers.specs.declared.Counted.{Counted}
-use Rattle.answers.specs.declared.Counted.TheVariants as C
+use Rattle.std.specs.Prelude.{ℕ, zero, suc, ◌+◌, ◌*◌, ◌/◌, ◌%◌, List, [], ◌∷◌, Result, Ok, Err}
+use Rattle.answers.specs.Answers.{number}
 use Rattle.answers.specs.declared.Granted.{Granted}
-use Rattle.answers.specs.declared.Granted.TheVariants as G
+use Rattle.answers.specs.declared.Refusal.{Refusal}
 
 -- ---- the word: the number, and beside 0 the count or the light's length times 2 ^ 8 and the arrival times 2 ^ 32
 
-abbrev pub counted_word : Counted → ℕ
-counted_word (C.Counted n) = n * 256
-counted_word (C.Refused n) = n
+abbrev pub counted_word : Result ℕ Refusal → ℕ
+counted_word (Ok n) = n * 256
+counted_word (Err r) = number r
 
-abbrev pub granted_word : Granted → ℕ
-granted_word (G.Granted len arrival) = len * 256 + arrival * 4294967296
-granted_word (G.Refused n) = n
+abbrev pub granted_word : Result Granted Refusal → ℕ
+granted_word (Ok g) = g.len * 256 + g.arrival * 4294967296
+granted_word (Err r) = number r
 
 -- ---- read back
 

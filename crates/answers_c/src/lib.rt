@@ -2,34 +2,40 @@
 #![tactic(auto)]
 
 ghost use Rattle.std.specs.Prelude.{◌≡◌};
-ghost use Rattle.answers.specs.Answers.{number_of};
+ghost use Rattle.answers.specs.Answers.{number, number_of};
 ghost use Rattle.answers_c.specs.Words.{counted_word, granted_word};
 
-use answers::{Answer, Counted, Granted};
+use answers::{Granted, Refusal};
 
-pub fn answer_word(a: Answer) -> u64
+fn refused_word(r: Refusal) -> u64
+    ensures { result ≡ number r }
+{
+    u64::from(u8::from(r))
+}
+
+pub fn answer_word(a: Result<(), Refusal>) -> u64
     ensures { result ≡ number_of a }
 {
     match a {
-        Answer::Accepted => 0,
-        Answer::Refused(n) => n as u64,
+        Ok(()) => 0,
+        Err(r) => refused_word(r),
     }
 }
 
-pub fn counted_word(c: Counted) -> u64
+pub fn counted_word(c: Result<u16, Refusal>) -> u64
     ensures { result ≡ counted_word c }
 {
     match c {
-        Counted::Counted(n) => (n as u64) * 256,
-        Counted::Refused(n) => n as u64,
+        Ok(n) => u64::from(n) * 256,
+        Err(r) => refused_word(r),
     }
 }
 
-pub fn granted_word(g: Granted) -> u64
+pub fn granted_word(g: Result<Granted, Refusal>) -> u64
     ensures { result ≡ granted_word g }
 {
     match g {
-        Granted::Granted(len, arrival) => (len as u64) * 256 + (arrival as u64) * 4294967296,
-        Granted::Refused(n) => n as u64,
+        Ok(light) => u64::from(light.len) * 256 + u64::from(light.arrival) * 4294967296,
+        Err(r) => refused_word(r),
     }
 }

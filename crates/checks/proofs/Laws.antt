@@ -1,126 +1,102 @@
--- Laws of the checks: an answer by its number, checks that are made one after the other, and the checks 1 to 7 before the later ones.
+-- Laws of the checks: checks that are made one after the other, and the checks 1 to 7 before the later ones.
 -- Assumes nothing.
-use Prim.Native.Nat.{ℕ, zero, suc, ◌+◌, ◌*◌, ◌<◌, ◌≤◌}
+use Prim.Native.Nat.{ℕ, zero, suc, ◌<◌, ◌≤◌}
 use native.Mathlib.Omega.{arith}
-use native.Mathlib.Nat.{mul-le-mul_right}
-use mathlib.Core.Path.{◌≡◌, refl, sym, ap, ◌∙◌}
-use mathlib.Core.Bool.{Bool, false, not, cond}
+use mathlib.Core.Path.{◌≡◌, refl, sym, ap, ap₂, ◌∙◌}
+use mathlib.Core.Bool.{Bool, false, cond}
 use mathlib.Core.List.{List, [], ◌∷◌}
 use lib.Dec.{eqb}
 use lib.ListN.{length}
-use Rattle.meaning.specs.Limits.{header, last_edition, horizon_limit, state_limit}
+use Rattle.std.specs.Prelude.{Result, Ok, Err, IsErr, IsErrAnd}
+use Rattle.meaning.specs.Limits.{header, last_edition}
 use Rattle.meaning.specs.Basics.{Each}
-use Rattle.meaning.specs.Answers.{Refusal, lowest, answer, accepted, refused}
-use Rattle.meaning.specs.Site.{Site, site_of, site_refusals, read_site}
+use Rattle.meaning.specs.Answers as Checked
+use Rattle.meaning.specs.Answers.{lowest}
+use Rattle.meaning.specs.Site.{Site, site_of, site_refusals}
 use Rattle.meaning.specs.Board.{board_length, edition, Pair, mark}
-use Rattle.meaning.specs.Calls.{PublicCall, opening, Lent, later_refusals, refusals, on_board}
+use Rattle.meaning.specs.Calls.{PublicCall, opening, Lent, later_refusals, refusals, on_board, with_board}
 use Rattle.meaning.proofs.BasicsLaws.{decide}
+use Rattle.meaning.proofs.SiteLaws.{site_read}
 use Rattle.meaning.proofs.AnswersLaws as AnswersLaws
 use Rattle.meaning.proofs.CheckLaws.{site_refused, size_refused, size_passed, as_open, past_open}
 use Rattle.meaning.proofs.BoardLaws.{length_mark, edition_mark}
-use Rattle.meaning.proofs.SiteLaws.{read_site_lem}
-use Rattle.site.specs.Check.{check_of, sizes_of}
+use Rattle.answers.specs.declared.Refusal.{Refusal}
+use Rattle.answers.specs.Answers.{number, number_of}
+use Rattle.answers.proofs.Laws.{number_least}
+use Rattle.site_layout.specs.Laid.{Laid}
+use Rattle.site_read.proofs.Laws.{read_laid}
+use Rattle.site.specs.Check.{sizes_of}
+use Rattle.site.specs.Ready.{Ready}
+use Rattle.site.specs.Halls.{site_in}
 use Rattle.site.specs.declared.Sizes.{Sizes}
-use Rattle.site.specs.declared.Check.TheVariants.{Passed, Refused}
-use Rattle.site.proofs.ReadLaws.{accepted_read, accepted_layout, refused_read}
-use Rattle.checks.specs.Checks.{by_number, check_by, from_number}
+use Rattle.site.specs.declared.hall.Hall.{Hall}
 
--- ---- an answer by its number
+-- ---- a refusal that `?` passes on
 
-by_zero : (l : Sizes) (n : ℕ) → n ≡ 0 → Passed l ≡ by_number l n
-unfolding by_number
-by_zero l n e = rw e
+pub passed_on : {A : Type 0} (result : Result A Refusal) (r : Refusal) → IsErr result × IsErrAnd result (λ s. s ≡ r) → number_of result ≡ number r
+passed_on (Ok x) r (err, same) = absurd same
+passed_on (Err s) r (err, same) = ap number same
 
-pub passed_number : (l k : Sizes) (n : ℕ) → Passed l ≡ by_number k n → (n ≡ 0) × (l ≡ k)
-unfolding by_number
-passed_number l k zero e = (refl, cc)
-passed_number l k (suc n) e = let z : ◌≡◌ {A = ℕ} 0 1 = cc in absurd (omega arith)
-
-pub refused_number : (k : Sizes) (m n : ℕ) → Refused m ≡ by_number k n → (n ≡ m) × (1 ≤ m)
-unfolding by_number
-refused_number k m zero e = let z : ◌≡◌ {A = ℕ} 0 1 = cc in absurd (omega arith)
-refused_number k m (suc n) e = let same : m ≡ suc n = cc in (sym same, omega arith)
-
--- ---- checks, one after the other
-
--- a test that a function made, negated on both sides
-pub negated : {r t b : Bool} → r ≡ t → not r ≡ b → not t ≡ b
-negated e h = sym (ap not e) ∙ h
-
--- the checks before the number n passed: those from it on answer
-abbrev pub Past : ℕ → List Refusal → Type 0
-Past n rs = (m : ℕ) → m ≡ lowest (from_number n rs) → m ≡ lowest rs
+-- ---- a check by its number
 
 -- does the check with the number n apply?
-abbrev pub applies_in : ℕ → List Refusal → Bool
+abbrev pub applies_in : ℕ → List Checked.Refusal → Bool
 applies_in n [] = false
 applies_in n (r ∷ rs) = cond (eqb r.number n) r.applies (applies_in n rs)
 
-pub passed_at : (n : ℕ) (rs : List Refusal) → Each AnswersLaws.Passed rs → applies_in n rs ≡ false
+pub passed_at : (n : ℕ) (rs : List Checked.Refusal) → Each AnswersLaws.Passed rs → applies_in n rs ≡ false
 passed_at n [] h = refl
 passed_at n (r ∷ rs) (e, h) = decide (eqb r.number n) (λ q. simp q e) (λ q. simp q (passed_at n rs h))
 
--- ---- a board's size
-
--- a number for each of n and each tick
-pub size_small : (n horizon : ℕ) → n ≤ state_limit → horizon ≤ horizon_limit → n * (horizon + 1) ≤ state_limit * (horizon_limit + 1)
-size_small n horizon few short =
-    let top : n * (horizon + 1) ≤ state_limit * (horizon + 1) = mul-le-mul_right (horizon + 1) few in
-    omega arith
-
 -- ---- numbers 1 to 7
 
--- a file that is refused: the number is that of its list
-site_number : (file : List ℕ) (n : ℕ) → read_site file ≡ refused n → (k : ℕ) × (n ≡ suc k) × (lowest (site_refusals file) ≡ suc k)
-unfolding read_site answer
-site_number file n e = go (lowest (site_refusals file)) refl
-  where
-    go : (m : ℕ) → lowest (site_refusals file) ≡ m → (k : ℕ) × (n ≡ suc k) × (lowest (site_refusals file) ≡ suc k)
-    go zero q =
-        let r : accepted (site_of file) ≡ refused n = sym (ap (answer (site_of file)) q) ∙ e in
-        let z : ◌≡◌ {A = ℕ} 0 1 = cc in absurd (omega arith)
-    go (suc k) q =
-        let r : refused (suc k) ≡ refused n = sym (ap (answer (site_of file)) q) ∙ e in
-        let same : n ≡ suc k = cc in (k, same, q)
+-- a file that is accepted is laid out
+pub site_laid : (file : List ℕ) → 0 ≡ lowest (site_refusals file) → Laid file
+site_laid file e = read_laid file _ (site_read file (sym e))
 
 module _ (file board : List ℕ) where
-  abbrev open_number : ℕ
-  open_number = lowest (refusals file (on_board board) opening)
+  -- a file that is refused: the number is that of its list
+  pub site_stops : (r : Refusal) → number r ≡ lowest (site_refusals file) → number r ≡ lowest (refusals file (on_board board) opening)
+  site_stops r e = go (number r) (number_least r) e
+    where
+      go : (n : ℕ) → 1 ≤ n → n ≡ lowest (site_refusals file) → n ≡ lowest (refusals file (on_board board) opening)
+      go zero some e = absurd (omega arith)
+      go (suc n) some e = sym (site_refused file (on_board board) opening n (sym e))
 
-  pub site_stops : (n : ℕ) → Refused n ≡ check_of (read_site file) → Refused n ≡ check_by (site_of file) open_number
-  unfolding by_number
-  site_stops n e =
-      let (k, same, low) = site_number file n (refused_read file n e) in
-      ap Refused same ∙ sym (ap (by_number (sizes_of (site_of file))) (site_refused file (on_board board) opening k low))
+  module _ (e : 0 ≡ lowest (site_refusals file)) where
+    -- with its sizes and a board of its length the file is ready
+    pub site_ready : (l : Sizes) → l ≡ sizes_of (site_of file) → length board ≡ board_length (site_of file) → Ready file (length board) l
+    site_ready l sized same = record { read = site_read file (sym e); sizes = sized; board = same }
 
-  module _ (l : Sizes) (e : Passed l ≡ check_of (read_site file)) where
-    pub size_stops : (length board ≡ board_length (site_of file) → ⊥) → Refused 7 ≡ check_by (site_of file) open_number
-    unfolding by_number
-    size_stops other =
-        let good = read_site_lem file (site_of file) (accepted_read file l e) in
-        sym (ap (by_number (sizes_of (site_of file))) (size_refused file (on_board board) good.0 other))
+    pub size_stops : (length board ≡ board_length (site_of file) → ⊥) → 7 ≡ lowest (refusals file (on_board board) opening)
+    size_stops other = sym (size_refused file (on_board board) (sym e) other)
 
-    pub size_passes : length board ≡ board_length (site_of file) → Passed l ≡ check_by (site_of file) open_number
-    size_passes same =
-        let good = read_site_lem file (site_of file) (accepted_read file l e) in
-        ap Passed (accepted_layout file l e) ∙ by_zero (sizes_of (site_of file)) open_number (size_passed file (on_board board) good.0 same)
+    pub size_passes : length board ≡ board_length (site_of file) → 0 ≡ lowest (refusals file (on_board board) opening)
+    size_passes same = sym (size_passed file (on_board board) (sym e) same)
 
 -- ---- the later numbers
 
 module _ (file : List ℕ) (lent : Lent) (q : PublicCall) where
   -- every call is refused as open is
-  pub refused_first : (n : ℕ) → Refused n ≡ check_by (site_of file) (open_number file lent.board) → (lowest (refusals file lent q) ≡ n) × (1 ≤ n)
+  pub refused_first : (r : Refusal) → number r ≡ lowest (refusals file (on_board lent.board) opening) → number r ≡ lowest (refusals file lent q)
   unfolding refusals
-  refused_first n e = go n (refused_number (sizes_of (site_of file)) n (open_number file lent.board) e)
+  refused_first r e = go (number r) (number_least r) e
     where
-      go : (n : ℕ) → (open_number file lent.board ≡ n) × (1 ≤ n) → (lowest (refusals file lent q) ≡ n) × (1 ≤ n)
-      go zero (low, some) = absurd (omega arith)
-      go (suc k) (low, some) = (as_open file lent q k low, some)
+      go : (n : ℕ) → 1 ≤ n → n ≡ lowest (refusals file (on_board lent.board) opening) → n ≡ lowest (refusals file lent q)
+      go zero some e = absurd (omega arith)
+      go (suc n) some e = sym (as_open file lent q n (sym e))
 
   -- or answered by its later checks
-  pub later_lowest : (l : Sizes) → Passed l ≡ check_by (site_of file) (open_number file lent.board) → lowest (refusals file lent q) ≡ lowest (later_refusals (site_of file) lent q)
+  pub later_lowest : 0 ≡ lowest (refusals file (on_board lent.board) opening) → lowest (refusals file lent q) ≡ lowest (later_refusals (site_of file) lent q)
   unfolding refusals
-  later_lowest l e = past_open file lent q (passed_number l (sizes_of (site_of file)) (open_number file lent.board) e).0
+  later_lowest e = past_open file lent q (sym e)
+
+  -- those of the hall's site, on its board
+  pub later_in : (hall : Hall) → (hall.file.bytes.now ≡ file) × (hall.board.now ≡ lent.board) → 0 ≡ lowest (refusals file (on_board lent.board) opening)
+      → lowest (refusals file lent q) ≡ lowest (later_refusals (site_in hall) (with_board hall.board.now lent) q)
+  later_in hall (of_file, of_board) e =
+      later_lowest e
+      ∙ sym (ap₂ (λ (f b : List ℕ). lowest (later_refusals (site_of f) (with_board b lent) q)) of_file of_board)
 
 -- ---- the work
 

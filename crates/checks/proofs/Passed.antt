@@ -11,25 +11,19 @@ use Rattle.meaning.specs.Answers.{lowest}
 use Rattle.meaning.specs.Site.{site_of}
 use Rattle.meaning.specs.Board.{edition}
 use Rattle.meaning.specs.Calls.{PublicCall, Lent, later_refusals, refusals}
-use Rattle.meaning.proofs.CallLaws.{none_parts, parts_read, board_sized}
+use Rattle.meaning.proofs.CallLaws.{none_parts}
 use Rattle.meaning.proofs.SiteLaws.{read_well}
 use Rattle.meaning.proofs.BoardLaws.{edition_small}
-use Rattle.site.specs.Check.{sizes_of}
 use Rattle.site.specs.Ready.{Ready}
 use Rattle.site.specs.declared.Sizes.{Sizes}
-use Rattle.site.specs.declared.Check.TheVariants.{Passed}
-use Rattle.checks.specs.Checks.{check_by}
-use Rattle.checks.proofs.Laws.{passed_number, applies_in, passed_at}
+use Rattle.site.specs.declared.hall.Hall.{Hall}
+use Rattle.checks.proofs.Laws.{applies_in, passed_at}
 
 -- ---- checks 1 to 7
 
--- they answer with the sizes of the site that the file says, and the board has that site's length
-pub ready : (file : List ℕ) (lent : Lent) (q : PublicCall) (l : Sizes) → Passed l ≡ check_by (site_of file) (lowest (refusals file lent q))
-    → Ready file (length lent.board) l
-ready file lent q l e =
-    let (none, same) = passed_number l (sizes_of (site_of file)) (lowest (refusals file lent q)) e in
-    let passed = none_parts file lent q none in
-    record { read = parts_read file lent q passed; sizes = same; board = board_sized file lent passed.of_board }
+-- the hall that they answer is made of the file and the board that were lent
+pub hall_ready : (hall : Hall) {file board : List ℕ} → (hall.file.bytes.now ≡ file) × (hall.board.now ≡ board) → Ready file (length board) hall.sizes
+hall_ready hall (of_file, of_board) = rw (← of_file, ← of_board) hall.ready
 
 pub ready_short : {file : List ℕ} {room : ℕ} {l : Sizes} → Ready file room l → l.horizon ≤ horizon_limit
 ready_short {file} r =

@@ -1,85 +1,84 @@
 // The later checks and the work of the calls of the board alone: interval, close and withdraw.
 #![tactic(auto)]
 
-ghost use Rattle.std.specs.Prelude.{◌≡◌, ℕ, ◌≤◌, ◌<◌, List, length};
+ghost use Rattle.std.specs.Prelude.{◌≡◌, ◌≤◌, ◌<◌, length};
 ghost use Rattle.meaning.specs.Limits.{horizon_limit, last_edition, header};
 ghost use Rattle.meaning.specs.Answers.{lowest};
 ghost use Rattle.meaning.specs.Site.{Site};
 ghost use Rattle.meaning.specs.Board.{edition};
 ghost use Rattle.meaning.specs.Calls.{close, withdraw, changed, run_named, bytes_view, close_refusals, withdraw_refusals, interval_refusals, Room};
+ghost use Rattle.answers.specs.Answers.{number_of};
 ghost use Rattle.site.specs.Check.{sizes_of};
-ghost use Rattle.site.specs.Ready.{Ready};
-ghost use Rattle.board_ticks.specs.Runs.{Row};
+ghost use Rattle.site.specs.Halls.{site_in};
+ghost use Rattle.board_ticks.specs.Runs.{OnBoard};
 
-use site::Sizes;
+use answers::Refusal;
+use site::{Hall, Sizes};
 
 // ---- interval
 
-// The lowest number of interval from 10 on, 0 if none applies; the output area has room for so many numbers.
-pub fn interval_refusal(l: Sizes, cell: u16, room: usize) -> u8
-    requires { l.horizon ≤ horizon_limit }
-    ensures { (site : Site) (areas : Room) → l ≡ sizes_of site → areas.out ≡ room → result ≡ lowest (interval_refusals site areas cell) }
+// The checks of interval from 10 on; the output area has room for so many numbers.
+#[tactic(auto, unfolding(meaning::specs::Calls::interval_refusals, meaning::specs::Answers::lowest))]
+pub fn check_interval(sizes: Sizes, cell: u16, room: usize) -> Result<(), Refusal>
+    requires { sizes.horizon ≤ horizon_limit }
+    ensures { (site : Site) (areas : Room) → sizes ≡ sizes_of site → areas.out ≡ room → number_of result ≡ lowest (interval_refusals site areas cell) }
 {
-    if l.cells <= cell as usize {
-        return 10;
+    if sizes.cells <= cell as usize {
+        return Err(Refusal::OutOfRange);
     }
-    if room < l.horizon + 2 {
-        return 14;
+    if room < sizes.horizon + 2 {
+        return Err(Refusal::AreaShort);
     }
-    0
+    Ok(())
 }
 
 // ---- close
 
 // Are the cell and the ticks first to last of the site?
-fn run_named(l: Sizes, cell: u16, first: u16, last: u16) -> bool
-    ensures { (site : Site) → l ≡ sizes_of site → result ≡ run_named site cell first last }
+#[tactic(auto, unfolding(meaning::specs::Calls::run_named, meaning::specs::Basics::every))]
+fn run_named(hall: &Hall<'_>, cell: u16, first: u16, last: u16) -> bool
+    ensures { result ≡ run_named (site_in hall.now) cell first last }
 {
-    if l.cells <= cell as usize {
-        return false;
-    }
-    if l.horizon < (first as usize) {
-        return false;
-    }
-    if l.horizon < (last as usize) {
-        return false;
-    }
-    first <= last
+    (cell as usize) < hall.sizes.cells
+        && first as usize <= hall.sizes.horizon
+        && last as usize <= hall.sizes.horizon
+        && first <= last
 }
 
-// The lowest number of close from 9 on, 0 if none applies.
-pub fn close_refusal(board: &[u8], l: Sizes, holder: u8, cell: u16, first: u16, last: u16) -> u8
-    requires { (file : List ℕ) × Ready file (length board.now) l }
-    ensures { (site : Site) → l ≡ sizes_of site → result ≡ lowest (close_refusals site (bytes_view site board.now) holder cell first last) }
+// The checks of close from 9 on.
+#[tactic(auto, using(crate::proofs::Laws::named_cell, crate::proofs::Laws::named_last, crate::proofs::Laws::run_closes), unfolding(meaning::specs::Calls::close_refusals, meaning::specs::Calls::bytes_view, meaning::specs::Answers::lowest))]
+pub fn check_close(
+    hall: &Hall<'_>,
+    holder: u8,
+    cell: u16,
+    first: u16,
+    last: u16,
+) -> Result<(), Refusal>
+    ensures { number_of result ≡ lowest (close_refusals (site_in hall.now) (bytes_view (site_in hall.now) hall.now.board.now) holder cell first last) }
 {
     if !board_sorts::is_closure(holder) {
-        return 9;
+        return Err(Refusal::HolderRange);
     }
-    if !run_named(l, cell, first, last) {
-        return 10;
+    if !run_named(hall, cell, first, last) {
+        return Err(Refusal::OutOfRange);
     }
-    if board::holder_stands(board, holder) {
-        return 12;
+    if board::holder_stands(hall.board, holder) {
+        return Err(Refusal::HolderStands);
     }
-    if checks::at_last_edition(board) {
-        return 15;
+    if checks::at_last_edition(hall.board) {
+        return Err(Refusal::LastEdition);
     }
-    if !board_ticks::run_closable(
-        board,
-        l.horizon,
-        l.margin,
-        cell as usize,
-        first as usize,
-        last as usize,
-    ) {
-        return 17;
+    let ticks = board_ticks::ticks_of(hall, cell as usize);
+    if !ticks.run_closable(first as usize, last as usize) {
+        return Err(Refusal::Conflict);
     }
-    0
+    Ok(())
 }
 
 // Writes the closure over the cell's ticks first to last, and adds 1 to the edition.
+#[tactic(auto, using(crate::proofs::Laws::close_changes))]
 pub fn close_work(board: &mut [u8], horizon: usize, holder: u8, cell: u16, first: u16, last: u16)
-    requires { Row (length board.old) horizon cell last × (edition board.old < last_edition) }
+    requires { OnBoard (length board.old) horizon cell × (last ≤ horizon) × (edition board.old < last_edition) }
     ensures { (site : Site) → site.horizon ≡ horizon → board.new ≡ changed site board.old (close holder cell first last) }
 {
     board_ticks::mark_run(
@@ -95,24 +94,26 @@ pub fn close_work(board: &mut [u8], horizon: usize, holder: u8, cell: u16, first
 
 // ---- withdraw
 
-// The lowest number of withdraw from 9 on, 0 if none applies.
-pub fn withdraw_refusal(board: &[u8], holder: u8) -> u8
+// The checks of withdraw from 9 on.
+#[tactic(auto, unfolding(meaning::specs::Calls::withdraw_refusals, meaning::specs::Calls::bytes_view, meaning::specs::Answers::lowest))]
+pub fn check_withdraw(board: &[u8], holder: u8) -> Result<(), Refusal>
     requires { header ≤ length board.now }
-    ensures { (site : Site) → result ≡ lowest (withdraw_refusals (bytes_view site board.now) holder) }
+    ensures { (site : Site) → number_of result ≡ lowest (withdraw_refusals (bytes_view site board.now) holder) }
 {
     if !board_sorts::is_holder(holder) {
-        return 9;
+        return Err(Refusal::HolderRange);
     }
     if !board::holder_stands(board, holder) {
-        return 13;
+        return Err(Refusal::HolderAbsent);
     }
     if checks::at_last_edition(board) {
-        return 15;
+        return Err(Refusal::LastEdition);
     }
-    0
+    Ok(())
 }
 
 // Clears the holder's bytes, and adds 1 to the edition.
+#[tactic(auto, using(crate::proofs::Laws::clear_editable, crate::proofs::Laws::withdraw_changes))]
 pub fn withdraw_work(board: &mut [u8], holder: u8)
     requires { (header ≤ length board.old) × (edition board.old < last_edition) }
     ensures { (site : Site) → board.new ≡ changed site board.old (withdraw holder) }

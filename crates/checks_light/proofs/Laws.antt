@@ -4,7 +4,7 @@ use Prim.Native.Nat.{ℕ, ◌≤◌, ◌<◌}
 use mathlib.Core.Path.{◌≡◌, ap, ◌∙◌}
 use mathlib.Core.Bool.{true}
 use mathlib.Core.List.{List}
-use lib.ListN.{length, get_or, replicate, length-replicate}
+use lib.ListN.{length, get_or}
 use native.Mathlib.Omega.{arith}
 use borrow.Author.Tests.{eqb-false, not-false}
 use Rattle.meaning.specs.Limits.{file_limit, motion_limit, last_edition}
@@ -16,7 +16,7 @@ use Rattle.meaning.specs.Calls.{listed, post, on_board, light_named, light_valid
 use Rattle.meaning.proofs.BasicsLaws.{every_at}
 use Rattle.meaning.proofs.SiteLaws.{read_passes}
 use Rattle.meaning.proofs.CallLaws.{named_goal}
-use Rattle.site_layout.specs.Laid.{state_place, Laid}
+use Rattle.site_layout.specs.Laid.{state_place}
 use Rattle.site.specs.Ready.{Ready}
 use Rattle.site.specs.declared.Sizes.{Sizes}
 use Rattle.site_read.proofs.Laws.{read_laid, laid_few}
@@ -31,23 +31,17 @@ pub goal_below : (site : Site) (l : Light) → light_named site l ≡ true → l
 unfolding light_named
 goal_below site l h = named_goal site (start_of l) l.goal l.dwell (every_at _ h 0)
 
--- a file that is ready is laid out, and the layout says where its motions start
+-- of a file that is ready the layout says where its motions start, and how many they are
 pub ready_index : {file : List ℕ} {room : ℕ} {l : Sizes} → Ready file room l
-    → (length file ≤ file_limit) × Laid file × (l.start ≡ state_place (length (site_of file).states)) × (l.motions ≡ length (site_of file).motions)
-ready_index {file} r = ((read_passes file _ r.read).short, read_laid file _ r.read, ap (λ (k : Sizes). k.start) r.sizes, ap (λ (k : Sizes). k.motions) r.sizes)
+    → (length file ≤ file_limit) × (l.start ≡ state_place (length (site_of file).states)) × (l.motions ≡ length (site_of file).motions)
+ready_index {file} r = ((read_passes file _ r.read).short, ap (λ (k : Sizes). k.start) r.sizes, ap (λ (k : Sizes). k.motions) r.sizes)
 
--- a file that is ready has no more motions than any site may have
+-- they are no more than any site may have
 pub ready_few : {file : List ℕ} {room : ℕ} {l : Sizes} → Ready file room l → l.motions ≤ motion_limit
 ready_few {file} r =
-    let (_, laid, _, count) = ready_index r in
-    let few = laid_few file laid in
+    let (_, _, count) = ready_index r in
+    let few = laid_few file (read_laid file _ r.read) in
     omega arith
-
--- what filling an index asks, of one that is cleared and has room for n motions
-pub index_asked : (n : ℕ) {file : List ℕ} {room : ℕ} {l : Sizes} → Ready file room l → l.motions ≤ n
-    → ((length file ≤ file_limit) × Laid file × (l.start ≡ state_place (length (site_of file).states)) × (l.motions ≡ length (site_of file).motions))
-    × (l.motions ≤ length (replicate {A = ℕ} n 0))
-index_asked n r few = (ready_index r, omega (arith, length-replicate {A = ℕ} n 0))
 
 -- ---- no check of a post applies
 

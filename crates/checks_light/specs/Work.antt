@@ -1,4 +1,4 @@
--- The index of a small site, and what the work of a post asks.
+-- What the work of a post asks.
 -- Assumes nothing.
 use Rattle.std.specs.Prelude.{ℕ, ◌<◌, ◌≡◌, true, List, length}
 use Rattle.meaning.specs.Limits.{last_edition}
@@ -8,10 +8,6 @@ use Rattle.meaning.specs.Light.{is_light, light_of}
 use Rattle.meaning.specs.Calls.{light_valid}
 use Rattle.site.specs.declared.Sizes.{Sizes}
 use Rattle.site.specs.Ready.{Ready}
-
--- motions that the index of a small site has room for
-abbrev pub few_motions : ℕ
-few_motions = 64
 
 -- the site file and the board are ready, the light is valid on the board, and there is a next edition
 pub record Postable (file board : List ℕ) (l : Sizes) (light : List ℕ) : Type 0 where

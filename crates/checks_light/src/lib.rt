@@ -2,17 +2,22 @@
 #![tactic(auto)]
 
 ghost use Rattle.std.specs.Prelude.{◌≡◌, true, ◌≤◌, length};
+ghost use Rattle.meaning.specs.Limits.{motion_limit};
 ghost use Rattle.meaning.specs.Answers.{lowest};
 ghost use Rattle.meaning.specs.Site.{site_of};
 ghost use Rattle.meaning.specs.Board.{free, mark};
 ghost use Rattle.meaning.specs.Light.{is_light, light_of};
 ghost use Rattle.meaning.specs.Calls.{post, changed, bytes_view, light_valid, light_pairs, light_refusals};
+ghost use Rattle.answers.specs.Answers.{number_of};
+ghost use Rattle.site.specs.Halls.{site_in, free_in};
 ghost use Rattle.site.specs.Ready.{Ready};
 ghost use Rattle.checks.specs.Checks.{from_number};
-ghost use Rattle.checks_light.specs.Work.{few_motions, Postable};
+ghost use Rattle.checks_light.specs.Work.{Postable};
 
-use site::Sizes;
-use site_layout::MOTION_LIMIT;
+use answers::Refusal;
+use site::{Hall, Sizes};
+use site_layout::{MOTION_LIMIT, SiteFile};
+use site_read::Motions;
 
 // Motions that the index of a small site has room for. An index is cleared before it is filled, and a small site is not to pay for one with room
 // for the motions of every site.
@@ -20,123 +25,117 @@ const FEW_MOTIONS: usize = 64;
 
 // ---- the checks
 
-// The light is valid on the board: by the index of a small site, and by one for every site.
-fn valid_small(file: &[u8], board: &[u8], l: Sizes, light: &[u8]) -> bool
-    requires ready { Ready file.now (length board.now) l × (is_light light.now ≡ true) }
-    requires motions_le_few_motions { l.motions ≤ few_motions }
-    ensures { result ≡ light_valid (site_of file.now) (free (site_of file.now) board.now) (light_of light.now) }
+// What is known of file, board and light stands in each function's clauses: a struct of the three would only be made and taken apart at each call.
+
+// The light is valid on the board, by an index with room for so many motions.
+#[tactic(auto, using(crate::proofs::Laws::ready_index))]
+fn valid_in<const MOTIONS: usize>(hall: &Hall<'_>, light: &[u8]) -> bool
+    requires lit { is_light light.now ≡ true }
+    requires room { (hall.now.sizes.motions ≤ MOTIONS) × (MOTIONS ≤ motion_limit) }
+    ensures { result ≡ light_valid (site_in hall.now) (free_in hall.now) (light_of light.now) }
 {
-    let mut index = [0u16; FEW_MOTIONS];
-    site_read::fill_index(file, l.start, l.motions, &mut index);
-    plan_check::light_valid(file, board, l, &index, light)
+    let mut index = [0u16; MOTIONS];
+    site_read::fill_index(&hall.file, hall.sizes.start, hall.sizes.motions, &mut index);
+    let motions = Motions {
+        file: hall.file,
+        starts: &index,
+    };
+    plan_check::light_valid(hall, &motions, light)
 }
 
-fn valid_most(file: &[u8], board: &[u8], l: Sizes, light: &[u8]) -> bool
-    requires { Ready file.now (length board.now) l × (is_light light.now ≡ true) }
-    ensures { result ≡ light_valid (site_of file.now) (free (site_of file.now) board.now) (light_of light.now) }
+// The same by the smaller index with room for the site's motions.
+#[tactic(auto, using(crate::proofs::Laws::ready_few))]
+fn valid_sized(hall: &Hall<'_>, light: &[u8]) -> bool
+    requires { is_light light.now ≡ true }
+    ensures { result ≡ light_valid (site_in hall.now) (free_in hall.now) (light_of light.now) }
 {
-    let mut index = [0u16; MOTION_LIMIT];
-    site_read::fill_index(file, l.start, l.motions, &mut index);
-    plan_check::light_valid(file, board, l, &index, light)
+    if hall.sizes.motions <= FEW_MOTIONS {
+        return valid_in::<FEW_MOTIONS>(hall, light);
+    }
+    valid_in::<MOTION_LIMIT>(hall, light)
 }
 
-// The same by the smaller of them with room for the site's motions.
-fn valid_sized(file: &[u8], board: &[u8], l: Sizes, light: &[u8]) -> bool
-    requires { Ready file.now (length board.now) l × (is_light light.now ≡ true) }
-    ensures { result ≡ light_valid (site_of file.now) (free (site_of file.now) board.now) (light_of light.now) }
+// The checks from 15 on, where `wanted` is the light's edition.
+#[tactic(auto, unfolding(meaning::specs::Calls::light_refusals, meaning::specs::Calls::bytes_view, meaning::specs::Answers::lowest))]
+fn check_edition(hall: &Hall<'_>, light: &[u8], wanted: u32) -> Result<(), Refusal>
+    requires { (is_light light.now ≡ true) × (wanted ≡ (light_of light.now).edition) }
+    ensures { number_of result ≡ lowest (from_number 15 (light_refusals (site_in hall.now) (bytes_view (site_in hall.now) hall.now.board.now) light.now)) }
 {
-    if l.motions <= FEW_MOTIONS {
-        return valid_small(file, board, l, light);
+    if checks::at_last_edition(hall.board) {
+        return Err(Refusal::LastEdition);
     }
-    valid_most(file, board, l, light)
+    if wanted != board::read_edition(hall.board) {
+        return Err(Refusal::StaleLight);
+    }
+    if !valid_sized(hall, light) {
+        return Err(Refusal::Conflict);
+    }
+    Ok(())
 }
 
-// The lowest number from 15 on, 0 if none applies, where `wanted` is the light's edition.
-fn edition_refusal(file: &[u8], board: &[u8], l: Sizes, light: &[u8], wanted: u32) -> u8
-    requires { Ready file.now (length board.now) l × (is_light light.now ≡ true) × (wanted ≡ (light_of light.now).edition) }
-    ensures { result ≡ lowest (from_number 15 (light_refusals (site_of file.now) (bytes_view (site_of file.now) board.now) light.now)) }
-{
-    let last = checks::at_last_edition(board);
-    let edition = board::read_edition(board);
-    let other = wanted != edition;
-    if last {
-        return 15;
-    }
-    if other {
-        return 16;
-    }
-    if !valid_sized(file, board, l, light) {
-        return 17;
-    }
-    0
-}
-
-// The lowest number of post, which is that of audit, from 8 on; 0 if none applies.
-pub fn light_refusal(file: &[u8], board: &[u8], l: Sizes, light: &[u8]) -> u8
-    requires { Ready file.now (length board.now) l }
-    ensures { result ≡ lowest (light_refusals (site_of file.now) (bytes_view (site_of file.now) board.now) light.now) }
+// The checks of post, which are those of audit, from 8 on.
+#[tactic(auto, using(crate::proofs::Laws::goal_below), unfolding(meaning::specs::Calls::light_refusals, meaning::specs::Calls::bytes_view, meaning::specs::Answers::lowest))]
+pub fn check_light(hall: &Hall<'_>, light: &[u8]) -> Result<(), Refusal>
+    ensures { number_of result ≡ lowest (light_refusals (site_in hall.now) (bytes_view (site_in hall.now) hall.now.board.now) light.now) }
 {
     if !light_read::is_light(light) {
-        return 8;
+        return Err(Refusal::LightLayout);
     }
     let head = light_read::read_head(light);
     if !board_sorts::is_tug(head.tug) {
-        return 9;
+        return Err(Refusal::HolderRange);
     }
-    if !plan_check::light_named(l, light) {
-        return 10;
+    if !plan_check::light_named(hall.sizes, light) {
+        return Err(Refusal::OutOfRange);
     }
-    if site_read::state_speed(file, head.goal as usize) != 0 {
-        return 11;
+    if site_read::state_speed(&hall.file, head.goal as usize) != 0 {
+        return Err(Refusal::GoalRolling);
     }
-    if board::holder_stands(board, head.tug) {
-        return 12;
+    if board::holder_stands(hall.board, head.tug) {
+        return Err(Refusal::HolderStands);
     }
-    edition_refusal(file, board, l, light, head.edition)
+    check_edition(hall, light, head.edition)
 }
 
 // ---- the work
 
-// Writes a valid light's tug over the pairs that its plan holds: by the index of a small site, and by one for every site.
-fn mark_small(file: &[u8], board: &mut [u8], l: Sizes, light: &[u8])
-    requires ready { Ready file.now (length board.old) l × (is_light light.now ≡ true) }
-    requires light_value { light_valid (site_of file.now) (free (site_of file.now) board.old) (light_of light.now) ≡ true }
-    requires motions_le_few_motions { l.motions ≤ few_motions }
-    ensures { board.new ≡ mark (site_of file.now) (light_of light.now).tug (light_pairs (site_of file.now) (light_of light.now)) board.old }
+// Writes a valid light's tug over the pairs that its plan holds, by an index with room for so many motions.
+#[tactic(auto, using(crate::proofs::Laws::ready_index))]
+fn mark_in<const MOTIONS: usize>(file: &SiteFile<'_>, board: &mut [u8], sizes: Sizes, light: &[u8])
+    requires ready { Ready file.now.bytes.now (length board.old) sizes × (is_light light.now ≡ true) }
+    requires valid { light_valid (site_of file.now.bytes.now) (free (site_of file.now.bytes.now) board.old) (light_of light.now) ≡ true }
+    requires room { (sizes.motions ≤ MOTIONS) × (MOTIONS ≤ motion_limit) }
+    ensures { board.new ≡ mark (site_of file.now.bytes.now) (light_of light.now).tug (light_pairs (site_of file.now.bytes.now) (light_of light.now)) board.old }
 {
-    let mut index = [0u16; FEW_MOTIONS];
-    site_read::fill_index(file, l.start, l.motions, &mut index);
-    plan_mark::mark_light(file, board, l, &index, light);
+    let mut index = [0u16; MOTIONS];
+    site_read::fill_index(file, sizes.start, sizes.motions, &mut index);
+    let motions = Motions {
+        file: *file,
+        starts: &index,
+    };
+    plan_mark::mark_light(&motions, board, sizes, light);
 }
 
-fn mark_most(file: &[u8], board: &mut [u8], l: Sizes, light: &[u8])
-    requires ready { Ready file.now (length board.old) l × (is_light light.now ≡ true) }
-    requires light_value { light_valid (site_of file.now) (free (site_of file.now) board.old) (light_of light.now) ≡ true }
-    ensures { board.new ≡ mark (site_of file.now) (light_of light.now).tug (light_pairs (site_of file.now) (light_of light.now)) board.old }
+// The same by the smaller index with room for the site's motions.
+#[tactic(auto, using(crate::proofs::Laws::ready_few))]
+fn mark_sized(file: &SiteFile<'_>, board: &mut [u8], sizes: Sizes, light: &[u8])
+    requires ready { Ready file.now.bytes.now (length board.old) sizes × (is_light light.now ≡ true) }
+    requires valid { light_valid (site_of file.now.bytes.now) (free (site_of file.now.bytes.now) board.old) (light_of light.now) ≡ true }
+    ensures { board.new ≡ mark (site_of file.now.bytes.now) (light_of light.now).tug (light_pairs (site_of file.now.bytes.now) (light_of light.now)) board.old }
 {
-    let mut index = [0u16; MOTION_LIMIT];
-    site_read::fill_index(file, l.start, l.motions, &mut index);
-    plan_mark::mark_light(file, board, l, &index, light);
-}
-
-// The same by the smaller of them with room for the site's motions.
-fn mark_sized(file: &[u8], board: &mut [u8], l: Sizes, light: &[u8])
-    requires ready { Ready file.now (length board.old) l × (is_light light.now ≡ true) }
-    requires light_value { light_valid (site_of file.now) (free (site_of file.now) board.old) (light_of light.now) ≡ true }
-    ensures { board.new ≡ mark (site_of file.now) (light_of light.now).tug (light_pairs (site_of file.now) (light_of light.now)) board.old }
-{
-    if l.motions <= FEW_MOTIONS {
-        mark_small(file, board, l, light);
-        return;
+    if sizes.motions <= FEW_MOTIONS {
+        mark_in::<FEW_MOTIONS>(file, board, sizes, light);
+    } else {
+        mark_in::<MOTION_LIMIT>(file, board, sizes, light);
     }
-    mark_most(file, board, l, light);
 }
 
 // Writes the light's tug over the pairs that its plan holds, and adds 1 to the edition.
-pub fn post_work(file: &[u8], board: &mut [u8], l: Sizes, light: &[u8])
-    requires { Postable file.now board.old l light.now }
-    ensures { board.new ≡ changed (site_of file.now) board.old (post light.now) }
+#[tactic(auto, using(crate::proofs::Laws::post_changes, checks::proofs::Laws::mark_editable))]
+pub fn post_work(file: &SiteFile<'_>, board: &mut [u8], sizes: Sizes, light: &[u8])
+    requires { Postable file.now.bytes.now board.old sizes light.now }
+    ensures { board.new ≡ changed (site_of file.now.bytes.now) board.old (post light.now) }
 {
-    mark_sized(file, board, l, light);
+    mark_sized(file, board, sizes, light);
     board::next_edition(board);
 }

@@ -6,7 +6,8 @@ use mathlib.Core.Path.{◌≡◌, refl, sym, ap, ◌∙◌}
 use mathlib.Core.Option.{none, some}
 use mathlib.Core.List.{List, [], ◌∷◌, ◌++◌}
 use Rattle.meaning.specs.Basics.{all, Each, is_none}
-use Rattle.meaning.specs.Answers.{Refusal, ◌if◌, lowest, Clears, RiseFrom}
+use Rattle.meaning.specs.Answers as Checked
+use Rattle.meaning.specs.Answers.{◌if◌, lowest, Clears, RiseFrom}
 use Rattle.meaning.specs.Site.{Site, site_of, site_refusals}
 use Rattle.meaning.specs.Board.{free}
 use Rattle.meaning.specs.Plan.{Node}
@@ -14,11 +15,10 @@ use Rattle.meaning.specs.Reach.{Route, find_route}
 use Rattle.meaning.specs.Calls.{PublicCall, route, opening, listed, bytes_view, route_refusals, later_refusals, Lent, on_board, room_of, with_words_zero, refusals, accepted_done, meant}
 use Rattle.meaning.proofs.AnswersLaws as AnswersLaws
 use Rattle.meaning.proofs.CallLaws.{PassesTo14, passes_to_14, meant_number, meant_by, meant_accepted, refused_same, refused_18, search_found, search_none}
-use Rattle.site.specs.Check.{sizes_of}
-use Rattle.site.specs.declared.Sizes.{Sizes}
-use Rattle.site.specs.declared.Check.TheVariants.{Passed, Refused}
-use Rattle.checks.specs.Checks.{check_by}
-use Rattle.checks.proofs.Laws.{passed_number, refused_number, refused_first, later_lowest}
+use Rattle.answers.specs.declared.Refusal.{Refusal}
+use Rattle.answers.specs.Answers.{number}
+use Rattle.answers.proofs.Laws.{number_least}
+use Rattle.checks.proofs.Laws.{refused_first, later_lowest}
 use Rattle.checks_route.specs.Checks.{route_checks}
 
 -- one list of checks that passed before another
@@ -27,7 +27,7 @@ each_join P [] ys h k = k
 each_join P (x ∷ xs) ys (e, h) k = (e, each_join P xs ys h k)
 
 -- checks that all passed, and one with a number above n behind them
-clears_behind : (n : ℕ) (xs : List Refusal) (r : Refusal) → n < r.number → Each AnswersLaws.Passed xs → Clears n (xs ++ (r ∷ []))
+clears_behind : (n : ℕ) (xs : List Checked.Refusal) (r : Checked.Refusal) → n < r.number → Each AnswersLaws.Passed xs → Clears n (xs ++ (r ∷ []))
 clears_behind n [] r above h = (λ le. absurd (omega arith), tt)
 clears_behind n (x ∷ xs) r above (e, h) = (λ le. e, clears_behind n xs r above h)
 
@@ -39,13 +39,13 @@ module _ (file : List ℕ) (lent : Lent) (tug : ℕ) (a : Node) (goal dwell : �
   call = listed (route tug a goal dwell)
 
   -- the checks 1 to 7, those up to 14, and the search
-  abbrev first : List Refusal
+  abbrev first : List Checked.Refusal
   first = refusals file (on_board lent.board) opening
 
-  abbrev pub checks : List Refusal
+  abbrev pub checks : List Checked.Refusal
   checks = route_checks site (bytes_view site lent.board) (room_of lent) tug a goal dwell
 
-  abbrev searched : Refusal
+  abbrev searched : Checked.Refusal
   searched = 18 if is_none (find_route site (bytes_view site lent.board).free a goal dwell)
 
   later_parts : later_refusals site lent call ≡ checks ++ (searched ∷ [])
@@ -66,22 +66,22 @@ module _ (file : List ℕ) (lent : Lent) (tug : ℕ) (a : Node) (goal dwell : �
   unfolding refusals site_refusals all
   first_most = AnswersLaws.lowest_most 7 first refl
 
-  pub first_meant : (n : ℕ) → Refused n ≡ check_by site (lowest first) → meant file lent call ≡ record { number = n; values = []; lent = lent }
-  first_meant n e =
-      let (low, above) = refused_first file lent call n e in
-      let same = (refused_number (sizes_of site) n (lowest first) e).0 in
+  pub first_meant : (r : Refusal) → number r ≡ lowest first → meant file lent call ≡ record { number = number r; values = []; lent = lent }
+  first_meant r e =
       let most = first_most in
-      refused_meant n low above (omega arith)
+      refused_meant (number r) (sym (refused_first file lent call r e)) (number_least r) (omega arith)
 
   checks_most : lowest checks ≤ 14
   unfolding route_refusals all
   checks_most = AnswersLaws.lowest_most 14 checks refl
 
-  module _ (l : Sizes) (e : Passed l ≡ check_by site (lowest first)) where
-    pub later_meant : (n : ℕ) → n ≡ lowest checks → 1 ≤ n → meant file lent call ≡ record { number = n; values = []; lent = lent }
-    later_meant n same above =
+  module _ (e : 0 ≡ lowest first) where
+    pub later_meant : (r : Refusal) → number r ≡ lowest checks → meant file lent call ≡ record { number = number r; values = []; lent = lent }
+    later_meant r same =
         let most = checks_most in
-        refused_meant n (later_lowest file lent call l e ∙ ap lowest later_parts ∙ AnswersLaws.lowest_front checks _ n (sym same) above) above (omega arith)
+        refused_meant (number r)
+        (later_lowest file lent call e ∙ ap lowest later_parts ∙ AnswersLaws.lowest_front checks _ (number r) (sym same) (number_least r))
+        (number_least r) (omega arith)
 
     -- ---- passed
 
@@ -91,7 +91,7 @@ module _ (file : List ℕ) (lent : Lent) (tug : ℕ) (a : Node) (goal dwell : �
 
     module _ (passed : 0 ≡ lowest checks) where
       first_passed : Each AnswersLaws.Passed first
-      first_passed = AnswersLaws.lowest_none first (AnswersLaws.all_rise file (on_board lent.board) opening) (passed_number l (sizes_of site) (lowest first) e).0
+      first_passed = AnswersLaws.lowest_none first (AnswersLaws.all_rise file (on_board lent.board) opening) (sym e)
 
       clears : Clears 14 (refusals file lent call)
       clears =

@@ -1,64 +1,61 @@
 // The later checks of a route call up to 14. What is behind them is the search.
 #![tactic(auto)]
 
-ghost use Rattle.std.specs.Prelude.{◌≡◌, ◌≤◌, length};
+ghost use Rattle.std.specs.Prelude.{◌≡◌, ◌≤◌};
 ghost use Rattle.meaning.specs.Limits.{horizon_limit, state_limit};
 ghost use Rattle.meaning.specs.Answers.{lowest};
-ghost use Rattle.meaning.specs.Site.{Site, site_of};
+ghost use Rattle.meaning.specs.Site.{Site};
 ghost use Rattle.meaning.specs.Calls.{words_needed, bytes_view, Room};
 ghost use Rattle.meaning.specs.Plan.{node};
+ghost use Rattle.answers.specs.Answers.{number_of};
 ghost use Rattle.site.specs.Check.{sizes_of};
-ghost use Rattle.site.specs.Ready.{Ready};
+ghost use Rattle.site.specs.Halls.{site_in};
 ghost use Rattle.checks_route.specs.Checks.{room_enough, route_checks};
 
-use site::{Sizes, Trip};
+use answers::Refusal;
+use site::{Hall, Sizes, Trip};
 
 // The words that a search needs, one for each state and tick.
-pub fn words_needed(l: Sizes) -> usize
-    requires { (l.states ≤ state_limit) × (l.horizon ≤ horizon_limit) }
-    ensures { (site : Site) → l ≡ sizes_of site → result ≡ words_needed site }
+pub fn words_needed(sizes: Sizes) -> usize
+    requires { (sizes.states ≤ state_limit) × (sizes.horizon ≤ horizon_limit) }
+    ensures { (site : Site) → sizes ≡ sizes_of site → result ≡ words_needed site }
 {
-    l.states * (l.horizon + 1)
+    sizes.states * (sizes.horizon + 1)
 }
 
 // Is there room for a light with a step at each tick, and for the words of the search?
-fn room_enough(l: Sizes, out_len: usize, work_len: usize) -> bool
-    requires { (l.states ≤ state_limit) × (l.horizon ≤ horizon_limit) }
-    ensures { (site : Site) (areas : Room) → l ≡ sizes_of site → areas.out ≡ out_len → areas.words ≡ work_len → result ≡ room_enough site areas }
+#[tactic(auto, using(crate::proofs::Laws::ready_small), unfolding(crate::specs::Checks::room_enough, meaning::specs::Basics::every))]
+fn room_enough(hall: &Hall<'_>, out_len: usize, work_len: usize) -> bool
+    ensures { (areas : Room) → areas.out ≡ out_len → areas.words ≡ work_len → result ≡ room_enough (site_in hall.now) areas }
 {
-    if out_len < light::length_of(l.horizon) {
-        return false;
-    }
-    words_needed(l) <= work_len
+    light::length_of(hall.sizes.horizon) <= out_len && words_needed(hall.sizes) <= work_len
 }
 
-// The lowest number of route from 9 to 14, 0 if none applies.
-pub fn route_refusal(
-    file: &[u8],
-    board: &[u8],
-    l: Sizes,
+// The checks of route from 9 to 14.
+#[tactic(auto, using(meaning::proofs::CallLaws::named_goal), unfolding(crate::specs::Checks::room_enough, meaning::specs::Calls::route_refusals, meaning::specs::Calls::bytes_view, meaning::specs::Answers::lowest))]
+pub fn check_route(
+    hall: &Hall<'_>,
     tug: u8,
     trip: Trip,
     out_len: usize,
     work_len: usize,
-) -> u8
-    requires { Ready file.now (length board.now) l }
-    ensures { (areas : Room) → areas.out ≡ out_len → areas.words ≡ work_len → result ≡ lowest (route_checks (site_of file.now) (bytes_view (site_of file.now) board.now) areas tug (node trip.start trip.tick) trip.goal trip.dwell) }
+) -> Result<(), Refusal>
+    ensures { (areas : Room) → areas.out ≡ out_len → areas.words ≡ work_len → number_of result ≡ lowest (route_checks (site_in hall.now) (bytes_view (site_in hall.now) hall.now.board.now) areas tug (node trip.start trip.tick) trip.goal trip.dwell) }
 {
     if !board_sorts::is_tug(tug) {
-        return 9;
+        return Err(Refusal::HolderRange);
     }
-    if !site::trip_named(l, trip) {
-        return 10;
+    if !site::trip_named(hall.sizes, trip) {
+        return Err(Refusal::OutOfRange);
     }
-    if site_read::state_speed(file, trip.goal as usize) != 0 {
-        return 11;
+    if site_read::state_speed(&hall.file, trip.goal as usize) != 0 {
+        return Err(Refusal::GoalRolling);
     }
-    if board::holder_stands(board, tug) {
-        return 12;
+    if board::holder_stands(hall.board, tug) {
+        return Err(Refusal::HolderStands);
     }
-    if !room_enough(l, out_len, work_len) {
-        return 14;
+    if !room_enough(hall, out_len, work_len) {
+        return Err(Refusal::AreaShort);
     }
-    0
+    Ok(())
 }

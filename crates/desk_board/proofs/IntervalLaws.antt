@@ -1,69 +1,84 @@
--- Laws of interval: its answer and the area, of a call whose checks passed and of one that they refuse.
+-- Laws of interval: its count and the area, of a call whose checks passed, and the number of one that its own checks refuse.
 -- Assumes nothing.
-use Prim.Native.Nat.{ℕ, zero, suc, ◌≤◌, ◌<◌}
+use Prim.Native.Nat.{ℕ, ◌+◌, ◌≤◌, ◌<◌}
 use native.Mathlib.Omega.{arith}
 use mathlib.Core.Path.{◌≡◌, refl, sym, ap, ◌∙◌}
 use mathlib.Core.Bool.{Bool}
-use mathlib.Core.List.{List, []}
+use mathlib.Core.List.{List, [], ◌∷◌}
 use lib.ListN.{length}
-use Rattle.meaning.specs.Limits.{horizon_limit}
+use Rattle.std.specs.Prelude.{Result, Ok, Err, IsErr, IsErrAnd}
 use Rattle.meaning.specs.Answers.{lowest}
 use Rattle.meaning.specs.Site.{Site, site_of}
 use Rattle.meaning.specs.Board.{free}
 use Rattle.meaning.specs.Intervals.{Interval, intervals, numbers_of}
-use Rattle.meaning.specs.Calls.{interval, Lent, lends, over, refusals, Done, accepted_done, refused_done, done_by, meant}
-use Rattle.meaning.proofs.CallLaws.{meant_number}
+use Rattle.meaning.specs.Calls.{opening, interval, interval_refusals, Room, Lent, lends, on_board, room_of, over, refusals, Done, accepted_done, meant}
 use Rattle.board_intervals.proofs.Laws.{fits}
-use Rattle.answers.specs.declared.Counted.TheVariants as C
-use Rattle.answers.specs.Answers.{counted_number, counted_values, counted_of, counted_by}
-use Rattle.answers.proofs.Laws.{RefusedBy, refused_number, accepted_meant}
+use Rattle.site.specs.Check.{sizes_of}
+use Rattle.site.specs.Halls.{site_in, free_in}
+use Rattle.site.specs.declared.hall.Hall.{Hall}
+use Rattle.checks.proofs.Laws.{later_in}
+use Rattle.checks.proofs.Passed.{ready_short}
+use Rattle.checks_board.proofs.Laws.{ready_horizon, interval_cell, interval_room}
+use Rattle.answers.specs.declared.Refusal.{Refusal}
+use Rattle.answers.specs.Answers.{number, counted_values}
+use Rattle.answers.proofs.Laws.{accepted_number, accepted_meant}
 
--- ---- the number and the values that the answer says are those that are meant
+-- a refusal that is passed on has no count beside it
+pub no_count : (result : Result ℕ Refusal) (r : Refusal) → IsErr result × IsErrAnd result (λ s. s ≡ r) → counted_values result ≡ []
+no_count (Ok n) r (err, same) = absurd same
+no_count (Err s) r (err, same) = refl
 
-counted_case : (site : Site) (l : Lent) (cell n : ℕ)
-    → (counted_number (counted_of (done_by site l (interval cell) n)) ≡ n) × (counted_values (counted_of (done_by site l (interval cell) n)) ≡ (done_by site l (interval cell) n).values)
-unfolding accepted_done refused_done
-counted_case site l cell zero = (refl, refl)
-counted_case site l cell (suc n) = (refl, refl)
+module _ (file board out : List ℕ) (cell : ℕ) (hall : Hall) (made : (hall.file.bytes.now ≡ file) × (hall.board.now ≡ board)) (first : 0 ≡ lowest (refusals file (on_board board) opening)) where
+  abbrev lent : Lent
+  lent = lends board out []
 
-module _ (file : List ℕ) (l : Lent) (cell : ℕ) where
-  pub counted_number_lem : counted_number (counted_of (meant file l (interval cell))) ≡ (meant file l (interval cell)).number
-  unfolding meant
-  counted_number_lem = (counted_case (site_of file) l cell (lowest (refusals file l (interval cell)))).0 ∙ sym (meant_number file l (interval cell))
+  -- what the later checks say of their number n
+  abbrev Says : ℕ → Type 0
+  Says n = (site : Site) (areas : Room) → hall.sizes ≡ sizes_of site → areas.out ≡ length out → n ≡ lowest (interval_refusals site areas cell)
 
-  pub counted_values_lem : counted_values (counted_of (meant file l (interval cell))) ≡ (meant file l (interval cell)).values
-  unfolding meant
-  counted_values_lem = (counted_case (site_of file) l cell (lowest (refusals file l (interval cell)))).1
+  all_checks : (n : ℕ) → Says n → n ≡ lowest (refusals file lent (interval cell))
+  all_checks n says = says (site_in hall) (room_of lent) hall.ready.sizes refl ∙ sym (later_in file lent (interval cell) hall made first)
 
--- ---- refused
+  pub interval_refused : (r : Refusal) → Says (number r) → number r ≡ lowest (refusals file lent (interval cell))
+  interval_refused r = all_checks (number r)
 
-counted_refused : (n : ℕ) (values : List ℕ) → 1 ≤ n → C.Refused n ≡ counted_by n values
-counted_refused zero values h = absurd (omega arith)
-counted_refused (suc n) values h = refl
+  -- ---- accepted
 
-pub refused_counted : (file : List ℕ) (lent : Lent) (cell n : ℕ) → RefusedBy file lent (interval cell) n → C.Refused n ≡ counted_of (meant file lent (interval cell))
-refused_counted file lent cell n by =
-    let values : List ℕ = (meant file lent (interval cell)).values in
-    counted_refused n values by.1 ∙ sym (ap (λ (k : ℕ). counted_by k values) (refused_number file lent (interval cell) n by))
+  module _ (says : Says 0) where
+    none : 0 ≡ lowest (refusals file lent (interval cell))
+    none = all_checks 0 says
 
--- ---- accepted
+    pub interval_accepted : 0 ≡ (meant file lent (interval cell)).number
+    interval_accepted = accepted_number file lent (interval cell) none
 
-module _ (file board out : List ℕ) (cell : ℕ) (passed : lowest (refusals file (lends board out []) (interval cell)) ≡ 0) (horizon : ℕ) (same_horizon : (site_of file).horizon ≡ horizon) where
-  -- the intervals, as the work finds them
-  found : intervals (free (site_of file) board cell) horizon ≡ intervals (free (site_of file) board cell) (site_of file).horizon
-  found = ap (intervals (free (site_of file) board cell)) (sym same_horizon)
+    pub cell_in : cell < (site_in hall).cells
+    cell_in = rw (made.0) (interval_cell file board out cell (sym none))
 
-  pub interval_counted : (n : ℕ) → n ≡ length (intervals (free (site_of file) board cell) horizon) → C.Counted n ≡ counted_of (meant file (lends board out []) (interval cell))
-  unfolding accepted_done
-  interval_counted n same = ap C.Counted (same ∙ ap length found) ∙ ap counted_of (accepted_meant file (lends board out []) (interval cell) passed)
+    -- the ticks of the cell that the work reads, up to the horizon h
+    module _ (good : ℕ → Bool) (h : ℕ) (frees : good ≡ free_in hall cell) (same : h ≡ (site_in hall).horizon) where
+      pub interval_fits : h + 2 ≤ length out
+      interval_fits =
+          let room : (site_in hall).horizon + 2 ≤ length out = rw (made.0) (interval_room file board out cell (sym none)) in
+          omega arith
 
-  pub interval_left : (end : List ℕ) → end ≡ over (numbers_of (intervals (free (site_of file) board cell) horizon)) out
-      → end ≡ (meant file (lends board out []) (interval cell)).lent.out
-  unfolding accepted_done
-  interval_left end same =
-      same ∙ ap (λ (is : List Interval). over (numbers_of is) out) found
-      ∙ ap (λ (d : Done). d.lent.out) (accepted_meant file (lends board out []) (interval cell) passed)
+      found : intervals good h ≡ intervals (free (site_of file) board cell) (site_of file).horizon
+      found = rw (frees, same, ← made.0, ← made.1) refl
 
--- few enough for 16 bits
-pub interval_few : (f : ℕ → Bool) (horizon : ℕ) → horizon ≤ horizon_limit → (n : ℕ) → n ≡ length (intervals f horizon) → n < 65536
-interval_few f horizon short n same = omega (arith, fits f horizon)
+      module _ (n : ℕ) (counted : n ≡ length (intervals good h)) where
+        -- few enough for 16 bits
+        pub interval_few : n < 65536
+        interval_few =
+            let short = ready_short hall.ready in
+            let horizon = ready_horizon hall.ready in
+            omega (arith, fits good h)
+
+        pub interval_counted : n ∷ [] ≡ (meant file lent (interval cell)).values
+        unfolding accepted_done
+        interval_counted = ap (λ (k : ℕ). k ∷ []) (counted ∙ ap length found) ∙ ap (λ (d : Done). d.values) (accepted_meant file lent (interval cell) none)
+
+      pub interval_left : (end : List ℕ) → end ≡ over (numbers_of (intervals good h)) out → end ≡ (meant file lent (interval cell)).lent.out
+      unfolding accepted_done
+      interval_left end writes =
+          writes
+          ∙ ap (λ (is : List Interval). over (numbers_of is) out) found
+          ∙ ap (λ (d : Done). d.lent.out) (accepted_meant file lent (interval cell) none)

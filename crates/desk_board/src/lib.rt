@@ -3,50 +3,32 @@
 
 ghost use Rattle.std.specs.Prelude.{◌≡◌, []};
 ghost use Rattle.meaning.specs.Calls.{opening, interval, meant, lends, on_board};
-ghost use Rattle.answers.specs.Answers.{answer_of, counted_of};
+ghost use Rattle.answers.specs.Answers.{number_of, counted_values};
 
-use answers::{Answer, Counted};
-use site::Check;
+use answers::Refusal;
 
 // Sets every byte of the board to 0.
-pub fn open(file: &[u8], board: &mut [u8]) -> Answer
-    ensures value { result ≡ answer_of (meant file.now (on_board board.old) opening).number }
+pub fn open(file: &[u8], board: &mut [u8]) -> Result<(), Refusal>
+    ensures number { number_of result ≡ (meant file.now (on_board board.old) opening).number }
     ensures board_after { board.new ≡ (meant file.now (on_board board.old) opening).lent.board }
     ensures file_unchanged { file.exit.now ≡ file.entry.now }
 {
-    let checked = checks::check_board(file, board);
-    match checked {
-        Check::Passed(_) => {
-            board::set_free(board);
-            Answer::Accepted
-        }
-        Check::Refused(n) => Answer::Refused(n),
-    }
+    checks::check_board(file, board)?;
+    board::set_free(board);
+    Ok(())
 }
 
 // Writes the first and last tick of each safe interval of the cell, in rising order.
-pub fn interval(file: &[u8], board: &[u8], cell: u16, out: &mut [u16]) -> Counted
-    ensures value { result ≡ counted_of (meant file.now (lends board.now out.old []) (interval cell)) }
+pub fn interval(file: &[u8], board: &[u8], cell: u16, out: &mut [u16]) -> Result<u16, Refusal>
+    ensures number { number_of result ≡ (meant file.now (lends board.now out.old []) (interval cell)).number }
+    ensures values { counted_values result ≡ (meant file.now (lends board.now out.old []) (interval cell)).values }
     ensures out_after { out.new ≡ (meant file.now (lends board.now out.old []) (interval cell)).lent.out }
     ensures file_unchanged { file.exit.now ≡ file.entry.now }
     ensures board_unchanged { board.exit.now ≡ board.entry.now }
 {
-    match checks::check_board(file, board) {
-        Check::Passed(l) => {
-            let number = checks_board::interval_refusal(l, cell, out.len());
-            if number != 0 {
-                return Counted::Refused(number);
-            }
-            let found = board_intervals::write_intervals(
-                board,
-                l.horizon,
-                l.margin,
-                cell as usize,
-                out,
-            );
-            let count = found as u16;
-            Counted::Counted(count)
-        }
-        Check::Refused(n) => Counted::Refused(n),
-    }
+    let hall = checks::check_board(file, board)?;
+    checks_board::check_interval(hall.sizes, cell, out.len())?;
+    let ticks = board_ticks::ticks_of(&hall, cell as usize);
+    let count = board_intervals::write_intervals(&ticks, out);
+    Ok(count as u16)
 }

@@ -1,58 +1,43 @@
 -- Laws of route: what its work asks, and what is meant of a route that was granted, that found no plan, and that was refused before.
 -- Assumes nothing.
-use Prim.Native.Nat.{ℕ, zero, suc, ◌≤◌}
+use Prim.Native.Nat.{ℕ, ◌≤◌}
 use native.Mathlib.Omega.{arith}
-use mathlib.Core.Path.{◌≡◌, refl, sym, ap, ap₂, ◌∙◌}
-use mathlib.Core.Option.{Option, none, some}
-use mathlib.Core.List.{List, []}
-use lib.ListN.{length, replicate}
+use mathlib.Core.Path.{◌≡◌, refl, sym, ap, ◌∙◌}
+use mathlib.Core.Option.{none, some}
+use mathlib.Core.Option as Math
+use mathlib.Core.List.{List, [], ◌++◌}
+use lib.ListN.{length, take, drop, replicate, length-replicate}
+use lib.Seq.{length-take-le}
+use Rattle.std.specs.Prelude.{ok_or, Option, Result, Ok, Err, IsErr, IsErrAnd}
 use Rattle.meaning.specs.Answers.{lowest}
 use Rattle.meaning.specs.Site.{Site, site_of}
-use Rattle.meaning.specs.Reach.{Route}
-use Rattle.meaning.specs.Light.{Light, encode}
-use Rattle.meaning.specs.Calls.{PublicCall, opening, on_board, listed, route, light_room, words_needed, Lent, lends, over, refusals, Done, granted_done, accepted_done, refused_done, done_by, meant}
-use Rattle.meaning.proofs.CallLaws.{meant_number, PassesTo14}
+use Rattle.meaning.specs.Board.{free}
+use Rattle.meaning.specs.Reach.{Route, find_route}
+use Rattle.meaning.specs.Light.{Light}
+use Rattle.meaning.specs.Calls.{opening, on_board, listed, route, bytes_view, granted_light, Room, room_of, light_room, words_needed, Lent, lends, over, refusals, Done, granted_done, accepted_done, meant}
+use Rattle.meaning.proofs.CallLaws.{PassesTo14}
 use Rattle.meaning.specs.Plan.{node}
 use Rattle.site.specs.Check.{sizes_of}
-use Rattle.site.specs.Ready.{Ready}
-use Rattle.site.specs.declared.Sizes.{Sizes}
+use Rattle.site.specs.Halls.{site_in}
+use Rattle.site.specs.declared.hall.Hall.{Hall}
 use Rattle.site.specs.declared.Trip.{Trip}
-use Rattle.site.specs.declared.Check.TheVariants.{Passed, Refused}
-use Rattle.checks.specs.Checks.{check_by}
-use Rattle.checks.proofs.Laws.{refused_number}
-use Rattle.checks.proofs.Passed.{ready}
+use Rattle.checks_route.specs.Checks.{route_checks}
 use Rattle.checks_route.proofs.RouteLaws as routes
-use Rattle.search.specs.declared.Found.TheVariants as F
 use Rattle.search_plan.specs.Planned.{Asked, route_on}
 use Rattle.search.specs.Finds.{light_on, found_of, out_of}
 use Rattle.answers.specs.declared.Granted.{Granted}
-use Rattle.answers.specs.declared.Granted.TheVariants as G
-use Rattle.answers.specs.Answers.{granted_number, granted_values, granted_by, granted_of}
-
--- ---- each case of an answer has the number and the values that are meant
-
-granted_case : (site : Site) (l : Lent) (c : PublicCall) (tug start tick goal dwell n : ℕ) → c ≡ listed (route tug (node start tick) goal dwell)
-    → (granted_number (granted_of (done_by site l c n)) ≡ n) × (granted_values (granted_of (done_by site l c n)) ≡ (done_by site l c n).values)
-unfolding accepted_done refused_done
-granted_case site l c tug start tick goal dwell zero e = rw e (refl, refl)
-granted_case site l c tug start tick goal dwell (suc n) e = (refl, refl)
-
-module _ (file : List ℕ) (l : Lent) (tug start tick goal dwell : ℕ) where
-  pub granted_number_lem : granted_number (granted_of (meant file l (listed (route tug (node start tick) goal dwell)))) ≡ (meant file l (listed (route tug (node start tick) goal dwell))).number
-  unfolding meant
-  granted_number_lem =
-      (granted_case (site_of file) l _ tug start tick goal dwell (lowest (refusals file l (listed (route tug (node start tick) goal dwell)))) refl).0
-      ∙ sym (meant_number file l (listed (route tug (node start tick) goal dwell)))
-
-  pub granted_values_lem : granted_values (granted_of (meant file l (listed (route tug (node start tick) goal dwell)))) ≡ (meant file l (listed (route tug (node start tick) goal dwell))).values
-  unfolding meant
-  granted_values_lem = (granted_case (site_of file) l _ tug start tick goal dwell (lowest (refusals file l (listed (route tug (node start tick) goal dwell)))) refl).1
+use Rattle.answers.specs.declared.Refusal.{Refusal}
+use Rattle.answers.specs.declared.Refusal.TheVariants.{NoPlan}
+use Rattle.answers.specs.Answers.{number, number_of, granted_values}
 
 -- ---- by the answer of the checks
 
 -- the answer, and the two areas after the call, are those of what is meant
-abbrev Leaves : Done → Granted → List ℕ → List ℕ → Type 0
-Leaves d r out words = (r ≡ granted_of d) × ((out ≡ d.lent.out) × (words ≡ d.lent.words))
+pub record Leaves (d : Done) (r : Result Granted Refusal) (out words : List ℕ) : Type 0 where
+  pub number : number_of r ≡ d.number
+  pub values : granted_values r ≡ d.values
+  pub out_after : out ≡ d.lent.out
+  pub work_after : words ≡ d.lent.words
 
 module _ (file board out words : List ℕ) (tug start tick goal dwell : ℕ) where
   abbrev lent : Lent
@@ -64,74 +49,85 @@ module _ (file board out words : List ℕ) (tug start tick goal dwell : ℕ) whe
   abbrev is : Done
   is = meant file lent (listed (route tug (node start tick) goal dwell))
 
-  -- refused before the search: nothing is written
-  granted_refused : (n : ℕ) → 1 ≤ n → G.Refused n ≡ granted_by n []
-  granted_refused zero h = absurd (omega arith)
-  granted_refused (suc n) h = refl
-
-  refused_leaves : (n : ℕ) → is ≡ record { number = n; values = []; lent = lent } → 1 ≤ n → Leaves is (G.Refused n) out words
-  refused_leaves n same above = rw same (granted_refused n above, (refl, refl))
+  -- refused before the search, and passed on: nothing is written
+  refused_leaves : (r : Refusal) (result : Result Granted Refusal) → IsErr result × IsErrAnd result (λ s. s ≡ r)
+      → is ≡ record { number = number r; values = []; lent = lent } → Leaves is result out words
+  refused_leaves r (Ok g) (err, told) same = absurd told
+  refused_leaves r (Err s) (err, told) same = rw same (record { number = ap number told; values = refl; out_after = refl; work_after = refl })
 
   -- by a number up to 7
-  pub route_first : (n : ℕ) → Refused n ≡ check_by (site_of file) (lowest (refusals file (on_board board) opening)) → Leaves is (G.Refused n) out words
-  route_first n e =
-      refused_leaves n (routes.first_meant file lent tug (node start tick) goal dwell n e) (refused_number (sizes_of (site_of file)) n _ e).1
+  pub route_first : (r : Refusal) → number r ≡ lowest (refusals file (on_board board) opening)
+      → (result : Result Granted Refusal) → IsErr result × IsErrAnd result (λ s. s ≡ r) → Leaves is result out words
+  route_first r e result told = refused_leaves r result told (routes.first_meant file lent tug (node start tick) goal dwell r e)
 
-  module _ (l : Sizes) (e : Passed l ≡ check_by (site_of file) (lowest (refusals file (on_board board) opening))) where
+  module _ (hall : Hall) (made : (hall.file.bytes.now ≡ file) × (hall.board.now ≡ board)) (first : 0 ≡ lowest (refusals file (on_board board) opening)) where
+    -- what the later checks say of their number n
+    abbrev Says : ℕ → Type 0
+    Says n = (areas : Room) → areas.out ≡ length out → areas.words ≡ length words
+        → n ≡ lowest (route_checks (site_in hall) (bytes_view (site_in hall) hall.board.now) areas tug (node start tick) goal dwell)
+
+    checked : (n : ℕ) → Says n → n ≡ lowest (routes.checks file lent tug (node start tick) goal dwell)
+    checked n says = rw (← made.0, ← made.1) (says (room_of lent) refl refl)
+
     -- by a number from 9 on
-    pub route_later : (n : ℕ) → n ≡ lowest (routes.checks file lent tug (node start tick) goal dwell) → 1 ≤ n → Leaves is (G.Refused n) out words
-    route_later n same above = refused_leaves n (routes.later_meant file lent tug (node start tick) goal dwell l e n same above) above
+    pub route_later : (r : Refusal) → Says (number r) → (result : Result Granted Refusal) → IsErr result × IsErrAnd result (λ s. s ≡ r) → Leaves is result out words
+    route_later r says result told =
+        refused_leaves r result told (routes.later_meant file lent tug (node start tick) goal dwell first r (checked (number r) says))
 
-    readied : Ready file (length board) l
-    readied = ready file (on_board board) opening l e
+    -- what the words that the search needs are said to be
+    abbrev Needs : ℕ → Type 0
+    Needs n = (s : Site) → hall.sizes ≡ sizes_of s → n ≡ words_needed s
 
-  module _ (l : Sizes) (e : Passed l ≡ check_by (site_of file) (lowest (refusals file (on_board board) opening)))
-      (passed : 0 ≡ lowest (routes.checks file lent tug (node start tick) goal dwell)) where
-    passes : PassesTo14 (site_of file) lent tug (node start tick) goal dwell
-    passes = routes.passes file lent tug (node start tick) goal dwell l e passed
+    needed : (n : ℕ) → Needs n → n ≡ words_needed (site_of file)
+    needed n needs = rw (← made.0) (needs (site_in hall) hall.ready.sizes)
 
-    pub route_asked : Asked file l (length board) trip
-    route_asked = record { ready = readied l e; named = passes.named }
+    module _ (says : Says 0) where
+      passes : PassesTo14 (site_of file) lent tug (node start tick) goal dwell
+      passes = routes.passes file lent tug (node start tick) goal dwell first (checked 0 says)
 
-    pub route_room : light_room (site_of file) ≤ length out
-    route_room = passes.light_room_lem
+      pub route_asked : Asked hall trip
+      route_asked = rw (made.0) passes.named
 
-    pub route_words : words_needed (site_of file) ≤ length words
-    route_words = passes.words_room
+      pub route_room : light_room (site_in hall) ≤ length out
+      route_room = rw (made.0) passes.light_room_lem
 
-    abbrev o : Option Route
-    o = route_on file board trip
+      pub route_words : (n : ℕ) → Needs n → n ≤ length words
+      route_words n needs = let fits = passes.words_room in omega (arith, needed n needs)
 
-    abbrev light : Light
-    light = light_on file board tug trip
+      abbrev light : Light
+      light = light_on hall tug trip
 
-    -- a plan was found
-    pub route_granted : (len arrival : ℕ) (left new : List ℕ) → F.Route len arrival ≡ found_of o light → left ≡ out_of o light out
-        → new ≡ over (replicate (words_needed (site_of file)) 0) words → Leaves is (G.Granted len arrival) left new
-    unfolding found_of out_of accepted_done
-    route_granted len arrival left new f w z = by_route o refl
-      where
-        by_route : (p : Option Route) → o ≡ p → Leaves is (G.Granted len arrival) left new
-        by_route none q =
-            let no : F.Route len arrival ≡ F.Nothing = f ∙ ap (λ (x : Option Route). found_of x light) q in
-            absurd (let y : ◌≡◌ {A = ℕ} 0 1 = cc in omega arith)
-        by_route (some r) q =
-            let same : is ≡ granted_done (site_of file) lent light = routes.found_meant file lent tug (node start tick) goal dwell l e passed r q in
-            let told : F.Route len arrival ≡ F.Route (length (encode light)) light.arrival = f ∙ ap (λ (x : Option Route). found_of x light) q in
-            let same_length : len ≡ length (encode light) = cc in
-            let same_arrival : arrival ≡ light.arrival = cc in
-            rw same (ap₂ G.Granted same_length same_arrival, (w ∙ ap (λ (x : Option Route). out_of x light out) q, z))
+      -- what the search answers: a plan, or that none exists
+      pub route_found : (r : Option Granted) (result : Result Granted Refusal) → result ≡ ok_or r NoPlan
+          → r ≡ found_of (route_on hall trip) light
+          → (left : List ℕ) → left ≡ out_of (route_on hall trip) light out
+          → (n : ℕ) → Needs n
+          → (new : List ℕ) → new ≡ replicate (length (take n words)) 0 → Leaves is result left (new ++ drop n words)
+      unfolding found_of out_of accepted_done
+      route_found r result turned finds left writes n needs new clears = by_route (route_on hall trip) refl
+        where
+          fits : length (take n words) ≡ n
+          fits = length-take-le n words (route_words n needs)
 
-    -- no plan exists
-    pub route_none : (left new : List ℕ) → F.Nothing ≡ found_of o light → left ≡ out_of o light out
-        → new ≡ over (replicate (words_needed (site_of file)) 0) words → Leaves is (G.Refused 18) left new
-    unfolding found_of out_of
-    route_none left new f w z = by_route o refl
-      where
-        by_route : (p : Option Route) → o ≡ p → Leaves is (G.Refused 18) left new
-        by_route none q =
-            rw (routes.none_meant file lent tug (node start tick) goal dwell l e passed q)
-            (refl, (w ∙ ap (λ (x : Option Route). out_of x light out) q, z))
-        by_route (some r) q =
-            let no : F.Nothing ≡ F.Route (length (encode light)) light.arrival = f ∙ ap (λ (x : Option Route). found_of x light) q in
-            absurd (let y : ◌≡◌ {A = ℕ} 0 1 = cc in omega arith)
+          zeroed : new ++ drop n words ≡ over (replicate (words_needed (site_of file)) 0) words
+          zeroed =
+              ap (λ (zs : List ℕ). zs ++ drop n words) (clears ∙ ap (λ (k : ℕ). replicate k 0) fits)
+              ∙ ap (λ (k : ℕ). replicate n 0 ++ drop k words) (sym (length-replicate {A = ℕ} n 0))
+              ∙ ap (λ (k : ℕ). over (replicate k 0) words) (needed n needs)
+
+          -- of the file and the board that were lent
+          lent_route : (p : Math.Option Route) → route_on hall trip ≡ p → find_route (site_of file) (free (site_of file) board) (node start tick) goal dwell ≡ p
+          lent_route p q = rw (← made.0, ← made.1) q
+
+          lent_light : light ≡ granted_light (site_of file) (bytes_view (site_of file) board) tug (node start tick) goal dwell
+          lent_light = rw (← made.0, ← made.1) refl
+
+          by_route : (p : Math.Option Route) → route_on hall trip ≡ p → Leaves is result left (new ++ drop n words)
+          by_route none q =
+              rw (routes.none_meant file lent tug (node start tick) goal dwell first (checked 0 says) (lent_route none q), turned, finds, q)
+              (record { number = refl; values = refl; out_after = writes ∙ ap (λ (x : Math.Option Route). out_of x light out) q; work_after = zeroed })
+          by_route (some r) q =
+              let same : is ≡ granted_done (site_of file) lent light =
+              rw lent_light (routes.found_meant file lent tug (node start tick) goal dwell first (checked 0 says) r (lent_route (some r) q)) in
+              rw (same, turned, finds, q)
+              (record { number = refl; values = refl; out_after = writes ∙ ap (λ (x : Math.Option Route). out_of x light out) q; work_after = zeroed })

@@ -1,28 +1,30 @@
 -- The demands, of the public calls themselves: over what their contracts promise, and nothing else of the code.
 -- `Learnt` and its arguments are those of crates/desk_board/proofs/ContractLaws.antt.
 -- Assumes nothing.
-use Prim.Native.Nat.{ℕ}
-use mathlib.Core.Path.{◌≡◌, refl, subst}
+use Prim.Native.Nat.{ℕ, zero, suc}
+use mathlib.Core.Path.{◌≡◌, refl, ap, subst}
 use mathlib.Core.List.{List, []}
 use contract.Lifetimes.{Lfts}
+use Rattle.std.specs.Prelude.{Result}
 use denote.Ref.{Bor, MutBor}
-use Rattle.meaning.specs.Calls.{PublicCall, opening, interval, listed, Call, route, audit, post, close, withdraw, Lent, lends, on_board, Done, meant}
+use Rattle.meaning.specs.Calls.{PublicCall, opening, interval, listed, Call, route, audit, post, close, withdraw, Lent, lends, on_board, Done, accepted_done, refused_done, done_by, meant}
 use Rattle.meaning.specs.Demands.{Exact, Demand1, Demand2, Demand3, Follows}
 use Rattle.meaning.proofs.Theorems.{exact_demands}
-use Rattle.meaning.specs.Plan.{node}
+use Rattle.meaning.specs.Site.{Site, site_of}
+use Rattle.meaning.specs.Plan.{Node, node}
 use Rattle.travel_runs.specs.Travel.{Returned, travel_meant, TravelExact, TravelDemand}
 use Rattle.travel_runs.proofs.Theorems.{travel_right}
-use Rattle.answers.specs.declared.Answer.{Answer}
-use Rattle.answers.specs.declared.Counted.{Counted}
+use Rattle.answers.specs.declared.Refusal.{Refusal}
 use Rattle.answers.specs.declared.Granted.{Granted}
-use Rattle.answers.specs.Answers.{number_of, answer_of, counted_number, counted_values, counted_of, granted_number, granted_values, granted_of}
+use Rattle.answers.specs.Answers.{number_of, answer_of, counted_values, counted_of, granted_values, granted_of}
+use Rattle.answers.proofs.Laws.{meant_known, answer_number, counted_number, granted_number}
 use Rattle.travel.specs.Timed.{timed_returned, timed_of}
 use Rattle.answers.proofs.DeskLaws.{board_done, lifetimes, lend, lend_mut, turns, AllowsSome, allows_meant, every_run}
 use Rattle.desk_board.proofs.ContractLaws.{open_meant, interval_meant}
 use Rattle.desk_holder.proofs.ContractLaws.{close_meant, withdraw_meant}
 use Rattle.desk_light.proofs.ContractLaws.{audit_meant, post_meant}
 use Rattle.desk_route.proofs.ContractLaws.{route_meant}
-use Rattle.travel.proofs.ContractLaws.{travel_meant_lem}
+use Rattle.travel.proofs.ContractLaws.{travel_meant_lem, timed_back}
 use Rattle.desk_board.proofs.open.Reads as open_reads
 use Rattle.desk_board.proofs.interval.Reads as interval_reads
 use Rattle.desk_route.proofs.route.Reads as route_reads
@@ -35,27 +37,27 @@ use Rattle.travel.proofs.travel.Reads as travel_reads
 -- `Calls file lent call done`: the contract of the call's function allows this answer and these areas after it. Each parameter as the
 -- function leaves it has a name of its own, so that what stays is learnt from the contract and from nothing else.
 pub data Calls : List ℕ → Lent → PublicCall → Done → Type 0 where
-  opens : (κs : Lfts 2) (file : Bor (List ℕ)) (board : MutBor (List ℕ)) (file' : Bor (List ℕ)) (left : MutBor (List ℕ)) (out words : List ℕ) (r : Answer)
+  opens : (κs : Lfts 2) (file : Bor (List ℕ)) (board : MutBor (List ℕ)) (file' : Bor (List ℕ)) (left : MutBor (List ℕ)) (out words : List ℕ) (r : Result Unit Refusal)
       → open_reads.Learnt κs (file, (board, tt)) r (file', (left, tt))
       → Calls file.now (lends board.now out words) opening (board_done (number_of r) left.now out words)
-  counts : (κs : Lfts 3) (file board : Bor (List ℕ)) (out : MutBor (List ℕ)) (file' board' : Bor (List ℕ)) (left : MutBor (List ℕ)) (cell cell' : ℕ) (words : List ℕ) (r : Counted)
+  counts : (κs : Lfts 3) (file board : Bor (List ℕ)) (out : MutBor (List ℕ)) (file' board' : Bor (List ℕ)) (left : MutBor (List ℕ)) (cell cell' : ℕ) (words : List ℕ) (r : Result ℕ Refusal)
       → interval_reads.Learnt κs (file, (board, (cell, (out, tt)))) r (file', (board', (cell', (left, tt))))
       → Calls file.now (lends board.now out.now words) (interval cell)
-      (record { number = counted_number r; values = counted_values r; lent = lends board'.now left.now words })
-  routes : (κs : Lfts 4) (file board : Bor (List ℕ)) (out words : MutBor (List ℕ)) (file' board' : Bor (List ℕ)) (left cleared : MutBor (List ℕ)) (tug start tick goal dwell tug' start' tick' goal' dwell' : ℕ) (r : Granted)
+      (record { number = number_of r; values = counted_values r; lent = lends board'.now left.now words })
+  routes : (κs : Lfts 4) (file board : Bor (List ℕ)) (out words : MutBor (List ℕ)) (file' board' : Bor (List ℕ)) (left cleared : MutBor (List ℕ)) (tug start tick goal dwell tug' start' tick' goal' dwell' : ℕ) (r : Result Granted Refusal)
       → route_reads.Learnt κs (file, (board, (tug, (start, (tick, (goal, (dwell, (out, (words, tt))))))))) r (file', (board', (tug', (start', (tick', (goal', (dwell', (left, (cleared, tt)))))))))
       → Calls file.now (lends board.now out.now words.now) (listed (route tug (node start tick) goal dwell))
-      (record { number = granted_number r; values = granted_values r; lent = lends board'.now left.now cleared.now })
-  audits : (κs : Lfts 3) (file board light file' left light' : Bor (List ℕ)) (out words : List ℕ) (r : Answer)
+      (record { number = number_of r; values = granted_values r; lent = lends board'.now left.now cleared.now })
+  audits : (κs : Lfts 3) (file board light file' left light' : Bor (List ℕ)) (out words : List ℕ) (r : Result Unit Refusal)
       → audit_reads.Learnt κs (file, (board, (light, tt))) r (file', (left, (light', tt)))
       → Calls file.now (lends board.now out words) (listed (audit light.now)) (board_done (number_of r) left.now out words)
-  posts : (κs : Lfts 3) (file : Bor (List ℕ)) (board : MutBor (List ℕ)) (light file' : Bor (List ℕ)) (left : MutBor (List ℕ)) (light' : Bor (List ℕ)) (out words : List ℕ) (r : Answer)
+  posts : (κs : Lfts 3) (file : Bor (List ℕ)) (board : MutBor (List ℕ)) (light file' : Bor (List ℕ)) (left : MutBor (List ℕ)) (light' : Bor (List ℕ)) (out words : List ℕ) (r : Result Unit Refusal)
       → post_reads.Learnt κs (file, (board, (light, tt))) r (file', (left, (light', tt)))
       → Calls file.now (lends board.now out words) (listed (post light.now)) (board_done (number_of r) left.now out words)
-  closes : (κs : Lfts 2) (file : Bor (List ℕ)) (board : MutBor (List ℕ)) (file' : Bor (List ℕ)) (left : MutBor (List ℕ)) (h cell first last h' cell' first' last' : ℕ) (out words : List ℕ) (r : Answer)
+  closes : (κs : Lfts 2) (file : Bor (List ℕ)) (board : MutBor (List ℕ)) (file' : Bor (List ℕ)) (left : MutBor (List ℕ)) (h cell first last h' cell' first' last' : ℕ) (out words : List ℕ) (r : Result Unit Refusal)
       → close_reads.Learnt κs (file, (board, (h, (cell, (first, (last, tt)))))) r (file', (left, (h', (cell', (first', (last', tt))))))
       → Calls file.now (lends board.now out words) (listed (close h cell first last)) (board_done (number_of r) left.now out words)
-  withdraws : (κs : Lfts 2) (file : Bor (List ℕ)) (board : MutBor (List ℕ)) (file' : Bor (List ℕ)) (left : MutBor (List ℕ)) (h h' : ℕ) (out words : List ℕ) (r : Answer)
+  withdraws : (κs : Lfts 2) (file : Bor (List ℕ)) (board : MutBor (List ℕ)) (file' : Bor (List ℕ)) (left : MutBor (List ℕ)) (h h' : ℕ) (out words : List ℕ) (r : Result Unit Refusal)
       → withdraw_reads.Learnt κs (file, (board, (h, tt))) r (file', (left, (h', tt)))
       → Calls file.now (lends board.now out words) (listed (withdraw h)) (board_done (number_of r) left.now out words)
 
@@ -85,19 +87,19 @@ demand3 = (exact_demands Calls exact).third
 -- ---- a site file and a light, which are lent for reading, are after the call as they were; what a call leaves of a board is in `Calls`
 
 pub record Unchanged : Type 0 where
-  pub opens : (κs : Lfts 2) (file : Bor (List ℕ)) (board : MutBor (List ℕ)) (file' : Bor (List ℕ)) (left : MutBor (List ℕ)) (r : Answer) → open_reads.Learnt κs (file, (board, tt)) r (file', (left, tt)) → file'.now ≡ file.now
-  pub counts : (κs : Lfts 3) (file board : Bor (List ℕ)) (out : MutBor (List ℕ)) (file' board' : Bor (List ℕ)) (left : MutBor (List ℕ)) (cell cell' : ℕ) (r : Counted)
+  pub opens : (κs : Lfts 2) (file : Bor (List ℕ)) (board : MutBor (List ℕ)) (file' : Bor (List ℕ)) (left : MutBor (List ℕ)) (r : Result Unit Refusal) → open_reads.Learnt κs (file, (board, tt)) r (file', (left, tt)) → file'.now ≡ file.now
+  pub counts : (κs : Lfts 3) (file board : Bor (List ℕ)) (out : MutBor (List ℕ)) (file' board' : Bor (List ℕ)) (left : MutBor (List ℕ)) (cell cell' : ℕ) (r : Result ℕ Refusal)
       → interval_reads.Learnt κs (file, (board, (cell, (out, tt)))) r (file', (board', (cell', (left, tt)))) → file'.now ≡ file.now
-  pub routes : (κs : Lfts 4) (file board : Bor (List ℕ)) (out words : MutBor (List ℕ)) (file' board' : Bor (List ℕ)) (left cleared : MutBor (List ℕ)) (tug start tick goal dwell tug' start' tick' goal' dwell' : ℕ) (r : Granted)
+  pub routes : (κs : Lfts 4) (file board : Bor (List ℕ)) (out words : MutBor (List ℕ)) (file' board' : Bor (List ℕ)) (left cleared : MutBor (List ℕ)) (tug start tick goal dwell tug' start' tick' goal' dwell' : ℕ) (r : Result Granted Refusal)
       → route_reads.Learnt κs (file, (board, (tug, (start, (tick, (goal, (dwell, (out, (words, tt))))))))) r (file', (board', (tug', (start', (tick', (goal', (dwell', (left, (cleared, tt)))))))))
       → file'.now ≡ file.now
-  pub audits : (κs : Lfts 3) (file board light file' left light' : Bor (List ℕ)) (r : Answer)
+  pub audits : (κs : Lfts 3) (file board light file' left light' : Bor (List ℕ)) (r : Result Unit Refusal)
       → audit_reads.Learnt κs (file, (board, (light, tt))) r (file', (left, (light', tt))) → (file'.now ≡ file.now) × (light'.now ≡ light.now)
-  pub posts : (κs : Lfts 3) (file : Bor (List ℕ)) (board : MutBor (List ℕ)) (light file' : Bor (List ℕ)) (left : MutBor (List ℕ)) (light' : Bor (List ℕ)) (r : Answer)
+  pub posts : (κs : Lfts 3) (file : Bor (List ℕ)) (board : MutBor (List ℕ)) (light file' : Bor (List ℕ)) (left : MutBor (List ℕ)) (light' : Bor (List ℕ)) (r : Result Unit Refusal)
       → post_reads.Learnt κs (file, (board, (light, tt))) r (file', (left, (light', tt))) → (file'.now ≡ file.now) × (light'.now ≡ light.now)
-  pub closes : (κs : Lfts 2) (file : Bor (List ℕ)) (board : MutBor (List ℕ)) (file' : Bor (List ℕ)) (left : MutBor (List ℕ)) (h cell first last h' cell' first' last' : ℕ) (r : Answer)
+  pub closes : (κs : Lfts 2) (file : Bor (List ℕ)) (board : MutBor (List ℕ)) (file' : Bor (List ℕ)) (left : MutBor (List ℕ)) (h cell first last h' cell' first' last' : ℕ) (r : Result Unit Refusal)
       → close_reads.Learnt κs (file, (board, (h, (cell, (first, (last, tt)))))) r (file', (left, (h', (cell', (first', (last', tt)))))) → file'.now ≡ file.now
-  pub withdraws : (κs : Lfts 2) (file : Bor (List ℕ)) (board : MutBor (List ℕ)) (file' : Bor (List ℕ)) (left : MutBor (List ℕ)) (h h' : ℕ) (r : Answer)
+  pub withdraws : (κs : Lfts 2) (file : Bor (List ℕ)) (board : MutBor (List ℕ)) (file' : Bor (List ℕ)) (left : MutBor (List ℕ)) (h h' : ℕ) (r : Result Unit Refusal)
       → withdraw_reads.Learnt κs (file, (board, (h, tt))) r (file', (left, (h', tt))) → file'.now ≡ file.now
 
 pub unchanged : Unchanged
@@ -140,6 +142,18 @@ asks_nothing = record {
 
 -- ---- the claims are not empty: the contracts allow what is meant of every call, and so a run of every list
 
+-- the case for what is meant of interval and of route says its values
+counted_told : (site : Site) (l : Lent) (cell n : ℕ) → counted_values (counted_of (done_by site l (interval cell) n)) ≡ (done_by site l (interval cell) n).values
+unfolding accepted_done refused_done
+counted_told site l cell zero = refl
+counted_told site l cell (suc n) = refl
+
+granted_told : (site : Site) (l : Lent) (tug : ℕ) (a : Node) (goal dwell n : ℕ)
+    → granted_values (granted_of (done_by site l (listed (route tug a goal dwell)) n)) ≡ (done_by site l (listed (route tug a goal dwell)) n).values
+unfolding accepted_done refused_done
+granted_told site l tug a goal dwell zero = refl
+granted_told site l tug a goal dwell (suc n) = refl
+
 module _ (file : List ℕ) where
   -- what is meant, of a board alone
   abbrev on_board_done : Lent → PublicCall → Done
@@ -148,28 +162,37 @@ module _ (file : List ℕ) where
   abbrev interval_done : Lent → ℕ → Done
   interval_done l cell = meant file (lends l.board l.out []) (interval cell)
 
+  -- the case for what is meant says its number
+  told : (l : Lent) (q : PublicCall) → number_of (answer_of (on_board_done l q).number) ≡ (on_board_done l q).number
+  told l q = answer_number _ (meant_known file (on_board l.board) q)
+
   some : AllowsSome Calls file
+  unfolding meant
   some l opening =
-      (_, Calls.opens (lifetimes 2) (lend file) (lend_mut l.board) (lend file) (lend_mut (on_board_done l opening).lent.board) l.out l.words (answer_of (on_board_done l opening).number) (refl, (refl, refl)))
-  some l (interval cell) =
-      (_, Calls.counts (lifetimes 3) (lend file) (lend l.board) (lend_mut l.out) (lend file) (lend l.board) (lend_mut (interval_done l cell).lent.out) cell cell l.words (counted_of (interval_done l cell)) (refl, (refl, (refl, refl))))
+      (_, Calls.opens (lifetimes 2) (lend file) (lend_mut l.board) (lend file) (lend_mut (on_board_done l opening).lent.board) l.out l.words (answer_of (on_board_done l opening).number) (told l opening, (refl, refl)))
+  some l (interval cell) = (
+    _,
+    Calls.counts (lifetimes 3) (lend file) (lend l.board) (lend_mut l.out) (lend file) (lend l.board) (lend_mut (interval_done l cell).lent.out) cell cell l.words (counted_of (interval_done l cell))
+        (counted_number (interval_done l cell) (meant_known file (lends l.board l.out []) (interval cell)), (counted_told (site_of file) (lends l.board l.out []) cell _, (refl, (refl, refl)))),
+  )
   some l (listed (route tug a goal dwell)) =
       let is : Done = meant file l (listed (route tug a goal dwell)) in (
         _,
         Calls.routes (lifetimes 4) (lend file) (lend l.board) (lend_mut l.out) (lend_mut l.words) (lend file) (lend l.board) (lend_mut is.lent.out) (lend_mut is.lent.words)
-            tug a.state a.tick goal dwell tug a.state a.tick goal dwell (granted_of is) (refl, (refl, (refl, (refl, refl)))),
+            tug a.state a.tick goal dwell tug a.state a.tick goal dwell (granted_of is)
+            (granted_number is (meant_known file l (listed (route tug a goal dwell))), (granted_told (site_of file) l tug a goal dwell _, (refl, (refl, (refl, refl))))),
       )
   some l (listed (audit light)) =
-      (_, Calls.audits (lifetimes 3) (lend file) (lend l.board) (lend light) (lend file) (lend l.board) (lend light) l.out l.words (answer_of (on_board_done l (listed (audit light))).number) (refl, (refl, (refl, refl))))
+      (_, Calls.audits (lifetimes 3) (lend file) (lend l.board) (lend light) (lend file) (lend l.board) (lend light) l.out l.words (answer_of (on_board_done l (listed (audit light))).number) (told l (listed (audit light)), (refl, (refl, refl))))
   some l (listed (post light)) =
       let is : Done = on_board_done l (listed (post light)) in
-      (_, Calls.posts (lifetimes 3) (lend file) (lend_mut l.board) (lend light) (lend file) (lend_mut is.lent.board) (lend light) l.out l.words (answer_of is.number) (refl, (refl, (refl, refl))))
+      (_, Calls.posts (lifetimes 3) (lend file) (lend_mut l.board) (lend light) (lend file) (lend_mut is.lent.board) (lend light) l.out l.words (answer_of is.number) (told l (listed (post light)), (refl, (refl, refl))))
   some l (listed (close h cell first last)) =
       let is : Done = on_board_done l (listed (close h cell first last)) in
-      (_, Calls.closes (lifetimes 2) (lend file) (lend_mut l.board) (lend file) (lend_mut is.lent.board) h cell first last h cell first last l.out l.words (answer_of is.number) (refl, (refl, refl)))
+      (_, Calls.closes (lifetimes 2) (lend file) (lend_mut l.board) (lend file) (lend_mut is.lent.board) h cell first last h cell first last l.out l.words (answer_of is.number) (told l (listed (close h cell first last)), (refl, refl)))
   some l (listed (withdraw h)) =
       let is : Done = on_board_done l (listed (withdraw h)) in
-      (_, Calls.withdraws (lifetimes 2) (lend file) (lend_mut l.board) (lend file) (lend_mut is.lent.board) h h l.out l.words (answer_of is.number) (refl, (refl, refl)))
+      (_, Calls.withdraws (lifetimes 2) (lend file) (lend_mut l.board) (lend file) (lend_mut is.lent.board) h h l.out l.words (answer_of is.number) (told l (listed (withdraw h)), (refl, refl)))
 
   pub can : (l : Lent) (q : PublicCall) → Calls file l q (meant file l q)
   can = allows_meant Calls exact file some
@@ -181,7 +204,7 @@ module _ (file : List ℕ) where
 
 -- `Travels d returned`: the contract of travel allows this answer
 pub data Travels : ℕ → Returned → Type 0 where
-  travels : (κs : Lfts 0) (d d' : ℕ) (r : Counted) → travel_reads.Learnt κs (d, tt) r (d', tt) → Travels d (timed_returned r)
+  travels : (κs : Lfts 0) (d d' : ℕ) (r : Result ℕ Refusal) → travel_reads.Learnt κs (d, tt) r (d', tt) → Travels d (timed_returned r)
 
 pub travel_exact : TravelExact Travels
 travel_exact d r (Travels.travels κs e e' answer p) = travel_meant_lem κs e e' answer p
@@ -193,5 +216,7 @@ travel_demand = travel_right.demand Travels travel_exact
 -- and the claim is not empty
 pub travel_can : (d : ℕ) → Travels d (travel_meant d)
 travel_can d =
-    let may : Travels d (timed_returned (timed_of (travel_meant d))) = Travels.travels (lifetimes 0) d d (timed_of (travel_meant d)) refl in
-    subst (Travels d) (travel_exact d _ may) may
+    let is = timed_back d in
+    let may : Travels d (timed_returned (timed_of (travel_meant d))) =
+    Travels.travels (lifetimes 0) d d (timed_of (travel_meant d)) (ap (λ (r : Returned). r.number) is, ap (λ (r : Returned). r.values) is) in
+    subst (Travels d) is may

@@ -24,7 +24,9 @@ use Rattle.answers.specs.Answers.{counted_of, granted_of}
 use Rattle.answers.proofs.DeskLaws.{board_done, board_exact, audit_exact, interval_exact, route_exact, lifetimes, lend, lend_mut, turns, AllowsSome, allows_meant, every_run}
 use Rattle.answers_c.specs.Words.{counted_word, granted_word, word_number, counted_in, granted_in}
 use Rattle.answers_c.proofs.WordLaws.{counted_back, number_back, interval_back, route_back}
-use Rattle.draw.specs.declared.Drawn.{Drawn}
+use Rattle.std.specs.Prelude.{Result}
+use Rattle.answers.specs.declared.Refusal.{Refusal}
+use Rattle.draw_pictures.specs.declared.Picture.{Picture}
 use Rattle.draw.specs.Drawn.{drawn_of}
 use Rattle.draw.specs.Demand.{DrawExact, DrawDemand}
 use Rattle.draw.proofs.Demands.{exact_demand}
@@ -239,7 +241,7 @@ travel_can d =
 -- ---- draw, which is lent a site file and a light for reading
 
 -- `ExportedDraw file light step frame drawn`: the contract of dispatch_draw allows what reads so
-pub data ExportedDraw : List ℕ → List ℕ → ℕ → ℕ → Drawn → Type 0 where
+pub data ExportedDraw : List ℕ → List ℕ → ℕ → ℕ → Result Picture Refusal → Type 0 where
   draws : (κs : Lfts 2) (file light file' light' : Bor (List ℕ)) (i k i' k' : ℕ) (r : DrawnWord)
       → draw_reads.Learnt κs (file, (light, (i, (k, tt)))) r (file', (light', (i', (k', tt)))) → ExportedDraw file.now light.now i k (drawn_in r)
 

@@ -10,6 +10,7 @@ use mathlib.Core.List.{List, [], ◌∷◌}
 use lib.ListN.{length, get_or}
 use borrow.Author.Tests.{le-ltb, ne_eqb}
 use contract.Lifetimes.{Lfts}
+use Rattle.std.specs.Prelude.{Result, Ok}
 use denote.Ref.{Bor}
 use Rattle.meaning.specs.Limits.{last_frame}
 use Rattle.meaning.specs.Basics.{Each}
@@ -24,13 +25,14 @@ use Rattle.meaning.specs.Pictures.{place_on, between, place_between, picture_fro
 use Rattle.meaning.proofs.AnswersLaws.{lowest_clear}
 use Rattle.meaning.proofs.SiteLaws.{read_site_lem, sites_right}
 use Rattle.meaning.proofs.RefusalLaws.{read_light, tells_light}
-use Rattle.meaning.proofs.PictureLaws.{site_passed, draw_accepted, draw_refused, pictures_right}
+use Rattle.meaning.proofs.PictureLaws.{site_passed, draw_accepted, pictures_right}
 use Rattle.draw_pictures.specs.declared.Picture.{Picture}
 use Rattle.draw_pictures.specs.Floats.{float_place, shown}
 use Rattle.draw_pictures.proofs.Theorems.{floats_right}
-use Rattle.draw.specs.declared.Drawn.{Drawn}
-use Rattle.draw.specs.declared.Drawn.TheVariants.{Shown, Refused}
-use Rattle.draw.specs.Drawn.{drawn_number, drawn_of}
+use Rattle.answers.specs.declared.Refusal.{Refusal}
+use Rattle.answers.specs.Answers.{number_of}
+use Rattle.draw.specs.Drawn.{drawn_of}
+use Rattle.draw.proofs.AnswerLaws.{refused_number}
 use Rattle.draw.specs.Demand.{DrawDesk, DrawExact, ExactlyAt, Exactly, DrawDemand}
 use Rattle.draw.proofs.draw.Reads as draw_reads
 
@@ -106,19 +108,19 @@ exact_demand desk exact = record {
   only_drawn = λ file light i k d may q is. by_number file light i k d may q is _ refl;
 }
   where
-    refused : (file light : List ℕ) (i k : ℕ) (d : Drawn) → desk file light i k d → (n : ℕ) → lowest (draw_refusals file light k) ≡ suc n → d ≡ Refused (suc n)
-    refused file light i k d may n e = exact file light i k d may ∙ ap drawn_of (draw_refused file light i k n e)
+    refused : (file light : List ℕ) (i k : ℕ) (d : Result Picture Refusal) → desk file light i k d → (n : ℕ) → lowest (draw_refusals file light k) ≡ suc n → number_of d ≡ suc n
+    refused file light i k d may n e = ap number_of (exact file light i k d may) ∙ refused_number file light k i n e
 
-    by_number : (file light : List ℕ) (i k : ℕ) (d : Drawn) → desk file light i k d → (q : Picture) → d ≡ Shown q
+    by_number : (file light : List ℕ) (i k : ℕ) (d : Result Picture Refusal) → desk file light i k d → (q : Picture) → d ≡ Ok q
         → (n : ℕ) → lowest (draw_refusals file light k) ≡ n → lowest (draw_refusals file light k) ≡ 0
     by_number file light i k d may q is zero e = e
-    by_number file light i k d may q is (suc n) e = absurd (let z = ap drawn_number (sym (refused file light i k d may n e) ∙ is) in omega arith)
+    by_number file light i k d may q is (suc n) e = absurd (let z = sym (refused file light i k d may n e) ∙ ap number_of is in omega arith)
 
 -- ---- draw
 
 -- `Draws file light step frame drawn`: the contract of draw allows this answer
-pub data Draws : List ℕ → List ℕ → ℕ → ℕ → Drawn → Type 0 where
-  draws : (κs : Lfts 2) (file light file' light' : Bor (List ℕ)) (step k step' k' : ℕ) (r : Drawn)
+pub data Draws : List ℕ → List ℕ → ℕ → ℕ → Result Picture Refusal → Type 0 where
+  draws : (κs : Lfts 2) (file light file' light' : Bor (List ℕ)) (step k step' k' : ℕ) (r : Result Picture Refusal)
       → draw_reads.Learnt κs (file, (light, (step, (k, tt)))) r (file', (light', (step', (k', tt)))) → Draws file.now light.now step k r
 
 pub draw_exact : DrawExact Draws
@@ -129,7 +131,7 @@ pub draw_demand : DrawDemand Draws
 draw_demand = exact_demand Draws draw_exact
 
 -- the site file and the light are after the call as they were
-pub unchanged : (κs : Lfts 2) (file light file' light' : Bor (List ℕ)) (step k step' k' : ℕ) (r : Drawn)
+pub unchanged : (κs : Lfts 2) (file light file' light' : Bor (List ℕ)) (step k step' k' : ℕ) (r : Result Picture Refusal)
     → draw_reads.Learnt κs (file, (light, (step, (k, tt)))) r (file', (light', (step', (k', tt)))) → (file'.now ≡ file.now) × (light'.now ≡ light.now)
 unchanged κs file light file' light' step k step' k' r p = p.1
 

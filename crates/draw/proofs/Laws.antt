@@ -34,8 +34,7 @@ use Rattle.light_steps.specs.declared.Step.TheVariants.{Wait, Move, End, Wrong}
 use Rattle.light_steps.specs.contracts.Step.{the_type}
 use Rattle.light_steps.proofs.StepLaws.{wait_on, end_on, wrong_laid}
 use Rattle.light_read.proofs.HeadLaws.{accepted as accepted_light}
-use Rattle.site_layout.specs.Laid.{state_place, Laid}
-use Rattle.site_read.proofs.Laws.{read_laid}
+use Rattle.site_layout.specs.Laid.{state_place}
 use Rattle.site.specs.declared.Sizes.{Sizes}
 use Rattle.draw.specs.Drawable.{Drawable, LightDrawable}
 use Rattle.draw.specs.Steps.{stands_in}
@@ -71,8 +70,8 @@ layout_apart may f fs h = (and_left _ (in_layout (is_move f) fs) h, and_right (i
 
 -- the steps from the place at on, of which i are left behind
 pub record StepsAt (s : List ℕ) (at i : ℕ) : Type 0 where
-  pub may_wait_lem : Bool
-  pub laid : laid_from may_wait_lem s (at + step_length * i) ≡ true
+  pub may_wait : Bool
+  pub laid : laid_from may_wait s (at + step_length * i) ≡ true
   pub steps : steps_from s (at + step_length * i) ≡ drop i (steps_from s at)
 
 drop_none : (i : ℕ) → drop i (map step_of []) ≡ []
@@ -86,7 +85,7 @@ at_end s at i ended =
     let none = listed_end s at ended in
     let later = listed_end s (at + step_length * i) (omega arith) in
     record {
-      may_wait_lem = true;
+      may_wait = true;
       laid = rw (complete_end s (at + step_length * i) (omega arith), later);
       steps = rw (later, none) (sym (drop_none i));
     }
@@ -95,7 +94,7 @@ steps_at : (s : List ℕ) (i : ℕ) (may : Bool) (at : ℕ) → laid_from may s 
 unfolding laid_from steps_from
 steps_at s zero may at h =
     let z : at + step_length * 0 ≡ at = omega arith in
-    record { may_wait_lem = may; laid = rw z h; steps = rw z }
+    record { may_wait = may; laid = rw z h; steps = rw z }
 steps_at s (suc i) may at h =
     decide (ltb at (length s))
     (λ l.
@@ -109,7 +108,7 @@ steps_at s (suc i) may at h =
     let rest = steps_at s i (is_move (field_at s at)) (at + step_length) (rw (← place) (simp (x.whole, later))) in
     let same : at + step_length * suc i ≡ at + step_length + step_length * i = omega arith in
     record {
-      may_wait_lem = rest.may_wait_lem;
+      may_wait = rest.may_wait;
       laid = rw same rest.laid;
       steps = rw same (rest.steps ∙ ap (λ (ps : List Step). drop (suc i) ps) (sym (ap (map step_of) x.list ∙ ap (λ (k : ℕ). step_of (field_at s at) ∷ map step_of (listed (fields_at s k))) place)));
     })
@@ -192,7 +191,7 @@ module _ (site : Site) (light : List ℕ) (d : LightDrawable site light) where
   motion_before j n later End e met f =
       none_later j (map step_of (listed (fields_at light first_step))) (sym (steps_here j) ∙ end_on light (light_length j) e)
       (sym (steps_here (suc j)) ∙ (wait_on light (light_length (suc j)) n later f).steps)
-  motion_before j n later Wrong e met f = false≢true (sym (wrong_laid (step_there j).may_wait_lem light (light_length j) e) ∙ (step_there j).laid)
+  motion_before j n later Wrong e met f = false≢true (sym (wrong_laid (step_there j).may_wait light (light_length j) e) ∙ (step_there j).laid)
 
   pub start_known : (light_of light).start < length site.states
   unfolding light_named
@@ -217,16 +216,13 @@ module _ (site : Site) (light : List ℕ) (d : LightDrawable site light) where
   no_step i (Move m later) e (inl met) = absurd (omega arith)
   no_step i (Move m later) e (inr met) = absurd (omega arith)
   no_step i End e met = sym (steps_there i) ∙ end_on light (light_length i) e
-  no_step i Wrong e met = absurd (false≢true (sym (wrong_laid (step_there i).may_wait_lem light (light_length i) e) ∙ (step_there i).laid))
+  no_step i Wrong e met = absurd (false≢true (sym (wrong_laid (step_there i).may_wait light (light_length i) e) ∙ (step_there i).laid))
 
 -- ---- a site that can be drawn
 
-module _ (file : List ℕ) (l : Sizes) (d : Drawable file l) where
+module _ {file : List ℕ} {l : Sizes} (d : Drawable file l) where
   well : WellFormed (site_of file)
   well = read_well file _ d.read
-
-  pub drawn_laid : Laid file
-  drawn_laid = read_laid file _ d.read
 
   pub drawn_start : l.start ≡ state_place (length (site_of file).states)
   drawn_start = ap (λ (k : Sizes). k.start) d.sizes

@@ -1,2 +1,3 @@
 pub mod Laws
 pub mod Demands
+pub mod AnswerLaws

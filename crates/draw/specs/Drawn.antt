@@ -1,16 +1,13 @@
--- The answer of the draw call: its number and its picture for each case, and the case for each answer that is meant.
+-- The answer of the draw call for each answer that is meant. Its number is `number_of` of it (crates/answers/specs/Answers.antt).
 -- Assumes nothing.
-use Rattle.std.specs.Prelude.{ℕ}
+use Rattle.std.specs.Prelude.{Result, Ok, Err}
 use Rattle.meaning.specs.Answers.{Answer, accepted, refused}
 use Rattle.meaning.specs.Pictures as Exact
+use Rattle.answers.specs.declared.Refusal.{Refusal}
+use Rattle.answers.specs.Answers.{refusal_of}
+use Rattle.draw_pictures.specs.declared.Picture.{Picture}
 use Rattle.draw_pictures.specs.Floats.{shown}
-use Rattle.draw.specs.declared.Drawn.{Drawn}
-use Rattle.draw.specs.declared.Drawn.TheVariants.{Shown, Refused}
 
-abbrev pub drawn_number : Drawn → ℕ
-drawn_number (Shown p) = 0
-drawn_number (Refused n) = n
-
-abbrev pub drawn_of : Answer Exact.Picture → Drawn
-drawn_of (accepted p) = Shown (shown p)
-drawn_of (refused n) = Refused n
+abbrev pub drawn_of : Answer Exact.Picture → Result Picture Refusal
+drawn_of (accepted p) = Ok (shown p)
+drawn_of (refused n) = Err (refusal_of n)

@@ -1,4 +1,5 @@
 pub mod Drawable
+pub mod Drawings
 pub mod Steps
 pub mod Drawn
 pub mod Demand

@@ -1,12 +1,12 @@
 -- What the draw call for C returns, and how its caller reads the answer back (include/dispatch.h says the same).
 -- Assumes nothing.
-use Rattle.std.specs.Prelude.{ℕ, zero, suc, Float}
+use Rattle.std.specs.Prelude.{ℕ, zero, suc, Float, Result, Ok, Err}
 use Rattle.std.specs.Float.{binary32}
 use Rattle.std.specs.Float.Ieee.{of_bits}
 use Rattle.draw_pictures.specs.declared.Picture.{Picture}
 use Rattle.draw_pictures.specs.declared.Picture.TheVariants.{OffFloor, Standing, Rolling}
-use Rattle.draw.specs.declared.Drawn.{Drawn}
-use Rattle.draw.specs.declared.Drawn.TheVariants.{Shown, Refused}
+use Rattle.answers.specs.declared.Refusal.{Refusal}
+use Rattle.answers.specs.Answers.{number, refusal_of}
 use Rattle.answers_c.specs.Words.{word_number, word_count}
 use Rattle.draw_c.specs.declared.DrawnWord.{DrawnWord}
 
@@ -21,9 +21,9 @@ picture_word OffFloor = record { word = 0; x = none; y = none; share = none }
 picture_word (Standing p) = record { word = 256; x = p.x; y = p.y; share = none }
 picture_word (Rolling p s) = record { word = 512; x = p.x; y = p.y; share = s }
 
-abbrev pub drawn_word : Drawn → DrawnWord
-drawn_word (Shown p) = picture_word p
-drawn_word (Refused n) = record { word = n; x = none; y = none; share = none }
+abbrev pub drawn_word : Result Picture Refusal → DrawnWord
+drawn_word (Ok p) = picture_word p
+drawn_word (Err r) = record { word = number r; x = none; y = none; share = none }
 
 -- ---- read back
 
@@ -33,9 +33,9 @@ picture_by zero r = OffFloor
 picture_by (suc zero) r = Standing (record { x = r.x; y = r.y })
 picture_by (suc (suc n)) r = Rolling (record { x = r.x; y = r.y }) r.share
 
-abbrev pub drawn_by : ℕ → DrawnWord → Drawn
-drawn_by zero r = Shown (picture_by (word_count r.word) r)
-drawn_by (suc n) r = Refused (suc n)
+abbrev pub drawn_by : ℕ → DrawnWord → Result Picture Refusal
+drawn_by zero r = Ok (picture_by (word_count r.word) r)
+drawn_by (suc n) r = Err (refusal_of (suc n))
 
-abbrev pub drawn_in : DrawnWord → Drawn
+abbrev pub drawn_in : DrawnWord → Result Picture Refusal
 drawn_in r = drawn_by (word_number r.word) r

@@ -4,7 +4,7 @@
 ghost use Rattle.std.specs.Prelude.{◌≡◌};
 ghost use Rattle.draw_c.specs.Words.{picture_word, drawn_word};
 
-use draw::Drawn;
+use answers::Refusal;
 use draw_pictures::Picture;
 
 // The kinds of picture, from bit 8 of the word on.
@@ -47,13 +47,13 @@ fn picture_word(p: Picture) -> DrawnWord
     }
 }
 
-pub fn drawn_word(d: Drawn) -> DrawnWord
+pub fn drawn_word(d: Result<Picture, Refusal>) -> DrawnWord
     ensures { result ≡ drawn_word d }
 {
     match d {
-        Drawn::Shown(p) => picture_word(p),
-        Drawn::Refused(n) => DrawnWord {
-            word: n as u64,
+        Ok(p) => picture_word(p),
+        Err(r) => DrawnWord {
+            word: u64::from(u8::from(r)),
             x: 0.0,
             y: 0.0,
             share: 0.0,

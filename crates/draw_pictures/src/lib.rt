@@ -26,7 +26,7 @@ pub enum Picture {
 fn share(k: u8) -> f32
     ensures { result ≡ sixteenths k }
 {
-    (k as f32) * 0.0625
+    f32::from(k) * 0.0625
 }
 
 // The coordinate at frame `k` of a motion from `x` to `y`.
@@ -34,8 +34,8 @@ fn between(x: u16, y: u16, k: u8) -> f32
     requires { k ≤ 16 }
     ensures { result ≡ sixteenths (between k x y) }
 {
-    let from = x as f32;
-    let to = y as f32;
+    let from = f32::from(x);
+    let to = f32::from(y);
     from + share(k) * (to - from)
 }
 
@@ -44,8 +44,8 @@ pub fn standing(c: Centre) -> Picture
     ensures { result ≡ shown (standing_at (place_on (centre_of c))) }
 {
     Picture::Standing(Place {
-        x: c.x as f32,
-        y: c.y as f32,
+        x: f32::from(c.x),
+        y: f32::from(c.y),
     })
 }
 

@@ -5,9 +5,9 @@ ghost use Rattle.std.specs.Prelude.{◌≡◌, ◌≤◌};
 ghost use Rattle.meaning.specs.Limits.{last_distance};
 ghost use Rattle.travel_runs.specs.Entries.{fewest};
 ghost use Rattle.travel_runs.specs.Travel.{travel_meant};
-ghost use Rattle.travel.specs.Timed.{timed_of};
+ghost use Rattle.answers.specs.Answers.{number_of, counted_values};
 
-use answers::Counted;
+use answers::Refusal;
 use travel_runs::LAST_DISTANCE;
 
 // Entry d: the ticks for d decimetres. The program travel_generator computes and prints these numbers.
@@ -45,11 +45,12 @@ fn entry(d: u32) -> u8
 }
 
 // The fewest ticks from rest to rest that cover at least `distance` decimetres.
-pub fn travel(distance: u32) -> Counted
-    ensures { result ≡ timed_of (travel_meant distance) }
+pub fn travel(distance: u32) -> Result<u16, Refusal>
+    ensures number { number_of result ≡ (travel_meant distance).number }
+    ensures values { counted_values result ≡ (travel_meant distance).values }
 {
     if LAST_DISTANCE < distance {
-        return Counted::Refused(19);
+        return Err(Refusal::TooFar);
     }
-    Counted::Counted(entry(distance) as u16)
+    Ok(u16::from(entry(distance)))
 }

@@ -17,9 +17,6 @@ longer v n zero = subst (λ (m : ℕ). distance v n ≤ distance v m) (let e : n
 longer v n (suc k) =
     subst (λ (m : ℕ). distance v n ≤ distance v m) (let e : suc (k + n) ≡ suc k + n = omega arith in e) (omega (arith, longer v n k))
 
-pub one_more : (v : ℕ → ℕ) (n : ℕ) → distance v (n + 1) ≡ distance v n + v (n + 1)
-one_more v n = let e : n + 1 ≡ suc n = omega arith in rw e refl
-
 -- ---- the highest speed is a run's
 
 top_run : (n : ℕ) → Run n (top_speed n)
@@ -58,14 +55,11 @@ module _ (n : ℕ) (v : ℕ → ℕ) (r : Run n v) where
 
 -- ---- more ticks get as far
 
-higher : (m n t : ℕ) → m ≤ n → top_speed m t ≤ top_speed n t
-higher m n t h = omega arith
-
 pub farther : (m n : ℕ) → m ≤ n → farthest m ≤ farthest n
 unfolding farthest
 farther m n h =
     let e : (n - m) + m ≡ n = omega arith in
-    let same_ticks : distance (top_speed m) m ≤ distance (top_speed n) m = sums (top_speed m) (top_speed n) m (λ t k. higher m n t h) in
+    let same_ticks : distance (top_speed m) m ≤ distance (top_speed n) m = sums (top_speed m) (top_speed n) m (λ t k. omega arith) in
     let more_ticks : distance (top_speed n) m ≤ distance (top_speed n) n =
     subst (λ (k : ℕ). distance (top_speed n) m ≤ distance (top_speed n) k) e (longer (top_speed n) m (n - m)) in
     omega arith

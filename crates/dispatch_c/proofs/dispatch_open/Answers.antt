@@ -1,9 +1,7 @@
 -- `dispatch_c::dispatch_open` meets its contract.
 -- Assumes nothing.
-use mathlib.Core.Path.{ap, ◌∙◌}
-use Rattle.answers.specs.Answers.{number_of}
-use Rattle.answers.proofs.Laws.{answer_number}
+use mathlib.Core.Path.{◌∙◌}
 use Rattle.dispatch_c.proofs.dispatch_open.Goals as goal
 
 pub returns-clause-value : goal.returns-clause-value
-returns-clause-value c = c.answer_word.ensures ∙ ap number_of c.open.ensures.value ∙ answer_number _
+returns-clause-value c = c.answer_word.ensures ∙ c.open.ensures.number

@@ -1,40 +1,43 @@
 -- `draw::draw` meets its contract.
 -- Assumes nothing.
-use Prim.Native.Nat.{suc, ◌-◌}
-use mathlib.Core.Path.{◌≡◌, sym, ap, ◌∙◌}
-use native.Mathlib.Omega.{arith}
-use Rattle.meaning.specs.Answers.{lowest}
-use Rattle.meaning.specs.Site.{read_site}
-use Rattle.meaning.specs.Pictures.{draw_refusals}
-use Rattle.site.specs.Check.{check_of}
-use Rattle.site.specs.declared.Check.TheVariants.{Passed}
-use Rattle.site.proofs.ReadLaws.{accepted_read, accepted_layout, refused_read}
-use Rattle.meaning.proofs.PictureLaws.{site_refused, site_passed, CanDraw, can_draw, draw_accepted, draw_refused}
+use mathlib.Core.Path.{sym, ap, ◌∙◌}
+use Rattle.std.specs.Prelude.{Ok}
+use Rattle.meaning.proofs.SiteLaws.{site_read}
+use Rattle.meaning.proofs.PictureLaws.{site_passed, can_draw, draw_accepted}
+use Rattle.site_read.proofs.Laws.{read_laid}
 use Rattle.draw.specs.Drawn.{drawn_of}
-use Rattle.draw.specs.declared.Drawn.TheVariants.{Shown, Refused}
+use Rattle.draw.proofs.AnswerLaws.{site_first, all_passed, refused_drawn}
 use Rattle.draw.proofs.draw.Goals as goal
 
-pub returns-then-number-ne0-clause-value : goal.returns-then-number-ne0-clause-value
-returns-then-number-ne0-clause-value c =
-    let passes : Passed c.in-Passed.l ≡ check_of (read_site c.args.file.now) = sym c.in-Passed.is ∙ c.check_site.ensures in
-    let number : c.picture_refusal-number.result ≡ lowest (draw_refusals c.args.file.now c.args.light.now c.args.k) = c.picture_refusal-number.ensures _ (accepted_layout _ _ passes) ∙ sym (site_passed c.args.file.now c.args.light.now c.args.k (accepted_read _ _ passes)) in
-    let n = c.picture_refusal-number.result in
-    let some : n ≡ suc (n - 1) = omega (arith, c.if-number-ne0.true) in
-    ap Refused some ∙ sym (ap drawn_of (draw_refused c.args.file.now c.args.light.now c.args.step c.args.k (n - 1) (sym number ∙ some)))
+pub returns-in_err-sizes-clause-value : goal.returns-in_err-sizes-clause-value
+returns-in_err-sizes-clause-value c =
+    refused_drawn c.args.file.now c.args.light.now c.args.k c.args.step _ (site_first _ _ _ _ c.in_err-sizes.ensures.number) _ c.from_residual.ensures
+
+pub returns-in_err-check_picture-clause-value : goal.returns-in_err-check_picture-clause-value
+returns-in_err-check_picture-clause-value c =
+    let read = site_read c.args.file.now (sym c.in_ok-sizes.ensures.number) in
+    refused_drawn c.args.file.now c.args.light.now c.args.k c.args.step _
+    (c.in_err-check_picture.ensures _ c.in_ok-sizes.ensures.sizes ∙ sym (site_passed c.args.file.now c.args.light.now c.args.k read))
+    _ c.from_residual-in_err-check_picture.ensures
+
+pub invariant_of-drawing : goal.invariant_of-drawing
+invariant_of-drawing c = record { laid = read_laid _ _ (site_read c.args.file.now (sym c.in_ok-sizes.ensures.number)) }
+
+pub invariant_of-drawing-2 : goal.invariant_of-drawing-2
+invariant_of-drawing-2 c =
+    let sizes = c.in_ok-sizes.ensures.sizes in
+    let read = site_read c.args.file.now (sym c.in_ok-sizes.ensures.number) in
+    let d = can_draw c.args.file.now c.args.light.now c.args.k read (all_passed _ _ _ read (c.in_ok-check_picture.ensures _ sizes)) in
+    record { drawable = record { read = read; sizes = sizes; centres = d.centres } }
 
 pub picture-requires : goal.picture-requires
 picture-requires c =
-    let passes : Passed c.in-Passed.l ≡ check_of (read_site c.args.file.now) = sym c.in-Passed.is ∙ c.check_site.ensures in
-    let number : c.picture_refusal-number.result ≡ lowest (draw_refusals c.args.file.now c.args.light.now c.args.k) = c.picture_refusal-number.ensures _ (accepted_layout _ _ passes) ∙ sym (site_passed c.args.file.now c.args.light.now c.args.k (accepted_read _ _ passes)) in
-    let can : CanDraw c.args.file.now c.args.light.now c.args.k = can_draw _ _ _ (accepted_read _ _ passes) (sym number ∙ c.if-number-ne0.false) in
-    let d = can in
-    (record { read = accepted_read _ _ passes; sizes = accepted_layout _ _ passes; centres = d.centres }, record { lit = d.lit; named = d.named }, d.frame)
+    let read = site_read c.args.file.now (sym c.in_ok-sizes.ensures.number) in
+    let d = can_draw c.args.file.now c.args.light.now c.args.k read (all_passed _ _ _ read (c.in_ok-check_picture.ensures _ c.in_ok-sizes.ensures.sizes)) in
+    (record { lit = d.lit; named = d.named }, d.frame)
 
-pub returns-else-number-ne0-clause-value : goal.returns-else-number-ne0-clause-value
-returns-else-number-ne0-clause-value c =
-    let passes : Passed c.in-Passed.l ≡ check_of (read_site c.args.file.now) = sym c.in-Passed.is ∙ c.check_site.ensures in
-    let number : c.picture_refusal-number.result ≡ lowest (draw_refusals c.args.file.now c.args.light.now c.args.k) = c.picture_refusal-number.ensures _ (accepted_layout _ _ passes) ∙ sym (site_passed c.args.file.now c.args.light.now c.args.k (accepted_read _ _ passes)) in
-    ap Shown c.picture.ensures ∙ sym (ap drawn_of (draw_accepted c.args.file.now c.args.light.now c.args.step c.args.k (sym number ∙ c.if-number-ne0.false)))
-
-pub returns-in-Refused-clause-value : goal.returns-in-Refused-clause-value
-returns-in-Refused-clause-value c = sym (ap drawn_of (site_refused _ _ _ _ _ (refused_read _ _ (sym c.in-Refused.is ∙ c.check_site.ensures))))
+pub returns-clause-value : goal.returns-clause-value
+returns-clause-value c =
+    let read = site_read c.args.file.now (sym c.in_ok-sizes.ensures.number) in
+    let none = all_passed _ _ _ read (c.in_ok-check_picture.ensures _ c.in_ok-sizes.ensures.sizes) in
+    ap Ok c.picture.ensures ∙ sym (ap drawn_of (draw_accepted c.args.file.now c.args.light.now c.args.step c.args.k none))
