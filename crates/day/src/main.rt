@@ -3,14 +3,12 @@
 // they wrote is printed.
 #![tactic(auto)]
 
-ghost use Rattle.std.specs.Prelude.{◌≤◌, ◌≡◌, length};
+ghost use Rattle.std.specs.Prelude.{◌≤◌, ◌≡◌, length, IfSome};
 ghost use Rattle.meaning.specs.Limits.{header, day_area};
 ghost use Rattle.day_calls.specs.Performed.{Areas};
 
 use day_lines::LINE;
-use day_opening::Opening;
 use day_orders::PIECE;
-use day_results::Outcome;
 use std::io::Read;
 use std::rt::Files;
 
@@ -22,7 +20,7 @@ const AREA: usize = 65536;
 
 const WORDS: usize = AREA / 4;
 
-// Reads what is next of the script, takes its turn and prints the line that it has.
+// Reads what is next of the script, takes its turn and prints the line that it has. Answers the last granted light's length if the program goes on.
 fn run_turn<R: Read>(
     rt: &impl Print,
     script: &mut R,
@@ -32,10 +30,10 @@ fn run_turn<R: Read>(
     words: &mut [u32],
     light: usize,
     first: bool,
-) -> Outcome
+) -> Option<usize>
     requires areas { Areas (length out.old) (length words.old) light }
     requires header_in_bounds { header ≤ length board.old }
-    ensures { result.light ≤ day_area }
+    ensures { IfSome result (λ next. next ≤ day_area) }
 {
     let mut piece = [0u8; PIECE];
     let n = day_input::read_piece(script, &mut piece);
@@ -52,10 +50,10 @@ fn run_turn<R: Read>(
     );
     // A line that cannot be written changes nothing that follows.
     let _ = rt.write_all(&line[..done.text]);
-    done
+    done.next
 }
 
-// Nothing says that the input ends, so the loop counts its turns down from a number that no run uses up.
+// Nothing says that the input ends, so the loop has a number of turns that no run uses up.
 fn run_turns<R: Read>(
     rt: &impl Print,
     script: &mut R,
@@ -68,15 +66,11 @@ fn run_turns<R: Read>(
     requires header_in_bounds { header ≤ length board.old }
 {
     let mut light = 0;
-    let mut first = true;
-    let mut going = true;
-    let mut turns = u64::MAX;
-    while going && turns > 0 {
-        let done = run_turn(rt, script, file, board, out, words, light, first);
-        light = done.light;
-        first = false;
-        going = done.going;
-        turns -= 1;
+    for turn in 0..u64::MAX {
+        match run_turn(rt, script, file, board, out, words, light, turn == 0) {
+            Some(next) => light = next,
+            None => return,
+        }
     }
 }
 
@@ -95,10 +89,10 @@ fn run_day<R: Read>(
     let n = day_input::load(rt, file);
     let mut line = [0u8; LINE];
     match day_opening::start(&file[..n], area, &mut line) {
-        Opening::Opened(size) => {
+        Ok(size) => {
             run_turns(rt, script, &file[..n], &mut area[..size], out, words);
         }
-        Opening::Refused(text) => {
+        Err(text) => {
             let _ = rt.write_all(&line[..text]);
         }
     }

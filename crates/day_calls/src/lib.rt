@@ -10,6 +10,7 @@ use day_orders::Order;
 use day_results::CallResult;
 
 // Performs a call. The last granted light is the front of the output area: a refused route leaves it there.
+// The areas stay parameters here and above: in a struct of `&mut` fields each function would have to say that it leaves the same ones in it.
 pub fn perform(
     file: &[u8],
     board: &mut [u8],

@@ -10,7 +10,8 @@ use std::fs::File;
 use std::io::Read;
 use std::rt::Files;
 
-// Reads until the buffer is full, the input ends or a read fails, and answers how many bytes there were.
+// Reads until the buffer is full, the input ends or a read fails, and answers how many bytes there were. By hand: `read_exact` does not say
+// how many bytes an input that ends too early had, and the next place is where the last read stopped, so this is no loop over an index.
 fn read_full<R: Read>(input: &mut R, buffer: &mut [u8]) -> usize
     ensures { IsPrefixLen result buffer.new }
 {

@@ -7,7 +7,7 @@ use native.Mathlib.Numerals.{sub-one}
 use mathlib.Core.Path.{◌≡◌, sym, ap, ◌∙◌}
 use mathlib.Core.List.{List, [], ◌∷◌, ◌++◌, append_assoc}
 use lib.ListN.{length, take, set, length-append}
-use lib.Seq.{length-take-le, take-length, take_at}
+use lib.Seq.{length-take-le, take_at}
 use lib.Dec.{leb}
 use borrow.Author.Tests.{lt-ltb, le-ltb, leb-true, leb-false}
 use Rattle.day_lines.specs.Digits.{hex_digit_ascii, last_digits, IsDigitCount}
@@ -71,20 +71,6 @@ put_after at line text rest h =
     ∙ take_at (take at line ++ text) rest (at + length text) (length-append (take at line) text ∙ ap (λ (n : ℕ). n + length text) (length-take-le at line h))
 
 -- the digits are copied to the front of what is left of the line
-pub number_after : (at n count size : ℕ) (line text kept last rest : List ℕ)
-    → at ≤ length line
-    → IsDigitCount 10 1 n count
-    → text ≡ last_digits 10 count n
-    → size ≡ length text
-    → last ≡ take (length text) text ++ kept
-    → take (at + size) (take at line ++ (last ++ rest)) ≡ take at line ++ decimal n
-number_after at n count size line text kept last rest room fewest spelt long copied =
-    rw (copied, long, take-length text)
-    (ap (λ (l : List ℕ). take (at + length text) (take at line ++ l)) (append_assoc text kept rest)
-    ∙ put_after at line text (kept ++ rest) room
-    ∙ ap (λ (l : List ℕ). take at line ++ l) (spelt ∙ digits_decimal n count fewest))
-
--- the same where the whole text is copied
 pub number_put : (at n count size : ℕ) (line text kept last rest : List ℕ)
     → at ≤ length line
     → IsDigitCount 10 1 n count
@@ -93,7 +79,10 @@ pub number_put : (at n count size : ℕ) (line text kept last rest : List ℕ)
     → last ≡ text ++ kept
     → take (at + size) (take at line ++ (last ++ rest)) ≡ take at line ++ decimal n
 number_put at n count size line text kept last rest room fewest spelt long copied =
-    number_after at n count size line text kept last rest room fewest spelt long (copied ∙ ap (λ (l : List ℕ). l ++ kept) (sym (take-length text)))
+    rw (copied, long)
+    (ap (λ (l : List ℕ). take (at + length text) (take at line ++ l)) (append_assoc text kept rest)
+    ∙ put_after at line text (kept ++ rest) room
+    ∙ ap (λ (l : List ℕ). take at line ++ l) (spelt ∙ digits_decimal n count fewest))
 
 -- ---- the whole line, number by number
 

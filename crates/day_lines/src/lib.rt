@@ -27,6 +27,7 @@ fn put_byte(line: &mut [u8], at: usize, byte: u8) -> usize
 }
 
 // Writes a number's digits at the front of `digits`, and answers how many there are: 0 has one.
+// By hand: nothing is allocated here, and std says what `write!` writes of a `String` alone.
 fn decimal(n: u64, digits: &mut [u8; 20]) -> usize
     ensures prefix_len { IsPrefixLen result digits.new }
     ensures fewest { IsDigitCount 10 1 n result }

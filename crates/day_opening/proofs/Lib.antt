@@ -1,2 +1,1 @@
-mod AreaLaws
 mod OpeningLaws

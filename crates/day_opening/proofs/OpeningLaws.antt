@@ -18,10 +18,9 @@ use Rattle.meaning.specs.Day.{line, day_board, text_of}
 use Rattle.meaning.proofs.AnswersLaws.{Passed, lowest_clear}
 use Rattle.meaning.proofs.CallLaws as CallLaws
 use Rattle.meaning.proofs.CheckLaws.{site_refused}
-use Rattle.answers.specs.declared.Answer.TheVariants as A
-use Rattle.answers.specs.Answers.{number_of, answer_of}
-use Rattle.answers.proofs.Laws.{answer_number}
-use Rattle.day_opening.specs.declared.Opening.TheVariants.{Opened, Refused}
+use Rattle.answers.specs.declared.Refusal.{Refusal}
+use Rattle.answers.specs.Answers as Answers
+use Rattle.answers.proofs.Laws.{number_least}
 use Rattle.day_opening.specs.Opens.{Opens, Refuses}
 
 -- ---- the number
@@ -68,40 +67,26 @@ module _ (file area : List ℕ) (need : ℕ) (inside : length (take need area) �
   number : (meant file (on_board board) opening).number ≡ (meant file (on_board (day_board file)) opening).number
   number = same_number file board (day_board file) same_size
 
-  module _ (e : A.Accepted ≡ answer_of (meant file (on_board board) opening).number) where
-    number_zero : (meant file (on_board board) opening).number ≡ 0
-    number_zero = sym (answer_number (meant file (on_board board) opening).number) ∙ sym (ap number_of e)
-
+  module _ (e : 0 ≡ (meant file (on_board board) opening).number) where
     whole : length board ≡ size
-    whole = same_size (read file board number_zero)
+    whole = same_size (read file board (sym e))
 
-    pub opened : (new : List ℕ) → new ≡ (meant file (on_board board) opening).lent.board → (n : ℕ) → Opened need ≡ Opened n
-        → Opens file n (new ++ drop need area)
-    opened new w n o =
-        let same : need ≡ n = cc in
-        let zeros : new ≡ replicate (length board) 0 = w ∙ opened_board file board number_zero in
+    pub opened : (new : List ℕ) → new ≡ (meant file (on_board board) opening).lent.board → Opens file need (new ++ drop need area)
+    opened new w =
+        let zeros : new ≡ replicate (length board) 0 = w ∙ opened_board file board (sym e) in
         let long : length new ≡ need = ap length zeros ∙ length-replicate {A = ℕ} (length board) 0 ∙ inside in
-        let count : length board ≡ board_length (site_of file) = sized file board number_zero in
+        let count : length board ≡ board_length (site_of file) = sized file board (sym e) in
         let joined = length-append new (drop need area) in
-        rw (← same)
-        (record {
-          number = sym number ∙ number_zero;
+        record {
+          number = sym number ∙ sym e;
           has_edition = omega arith;
           inside = omega arith;
-          front = take_at new (drop need area) need long ∙ zeros ∙ ap (λ (k : ℕ). replicate k 0) whole ∙ sym (opened_board file (day_board file) (sym number ∙ number_zero));
-        })
+          front = take_at new (drop need area) need long ∙ zeros ∙ ap (λ (k : ℕ). replicate k 0) whole ∙ sym (opened_board file (day_board file) (sym number ∙ sym e));
+        }
 
-  by_number : (n k : ℕ) → A.Refused n ≡ answer_of k → (k ≡ 0 → ⊥) × (n ≡ k)
-  by_number n zero e = absurd (let y : ◌≡◌ {A = ℕ} 0 1 = cc in omega arith)
-  by_number n (suc k) e = (λ z. omega arith, cc)
-
-  pub refused : (n : ℕ) → A.Refused n ≡ answer_of (meant file (on_board board) opening).number
-      → (text : ℕ) (new : List ℕ) → IsPrefixLen text new → take text new ≡ text_of (line n 0 0)
-      → (k : ℕ) → Refused text ≡ Refused k → Refuses file k new
-  refused n e text new counted front k o =
-      let same : text ≡ k = cc in
-      let (some, told) = by_number n (meant file (on_board (day_board file)) opening).number (e ∙ ap answer_of number) in
-      rw (← same) (record { number = some; counted = counted; front = front ∙ ap (λ (m : ℕ). text_of (line m 0 0)) told })
-
-pub not_opened : {X : Type 0} (m n : ℕ) → Refused m ≡ Opened n → X
-not_opened m n e = absurd (let y : ◌≡◌ {A = ℕ} 0 1 = cc in omega arith)
+  pub refused : (r : Refusal) → Answers.number r ≡ (meant file (on_board board) opening).number → (n : ℕ) → n ≡ Answers.number r
+      → (text : ℕ) (new : List ℕ) → IsPrefixLen text new → take text new ≡ text_of (line n 0 0) → Refuses file text new
+  refused r e n printed text new counted front =
+      let some = number_least r in
+      let told = printed ∙ e ∙ number in
+      record { number = λ z. omega arith; counted = counted; front = front ∙ ap (λ (m : ℕ). text_of (line m 0 0)) told }

@@ -3,18 +3,18 @@
 use Prim.Native.Nat.{ℕ, zero, suc, ◌+◌, ◌*◌, ◌≤◌, ◌<◌}
 use native.Mathlib.Omega.{arith}
 use mathlib.Core.Path.{◌≡◌, refl, sym, ap, ap₂, ◌∙◌}
-use mathlib.Core.Bool.{Bool, true, false, ◌&&◌}
+use mathlib.Core.Bool.{true, false, ◌&&◌}
 use mathlib.Core.Option.{Option, none, some}
 use mathlib.Core.List.{List, [], ◌∷◌}
 use lib.Dec.{eqb}
 use lib.ListN.{length, get_or}
-use borrow.Author.Tests.{eqb-true, le-leb, lt-leb}
+use borrow.Author.Tests.{eqb-true, eq-eqb, le-leb, lt-leb}
 use Rattle.meaning.specs.Limits.{close_tag, withdraw_tag, route_tag, post_tag, close_size, withdraw_size, route_size}
 use Rattle.meaning.specs.Basics.{u16_at}
 use Rattle.meaning.specs.Fields.{Field}
 use Rattle.meaning.specs.Calls as C
 use Rattle.meaning.specs.Day.{is_field, call_of, wanted}
-use Rattle.meaning.proofs.BasicsLaws.{decide, and_right}
+use Rattle.meaning.proofs.BasicsLaws.{decide, and_left, and_right}
 use Rattle.fields.specs.Places.{field_at, Whole}
 use Rattle.fields.specs.declared.Header.{Header}
 use Rattle.fields.proofs.Laws.{whole_length, whole_byte, whole_u16}
@@ -77,30 +77,32 @@ module _ (s : List ℕ) (h : Header) (w : Whole s 0 h) where
   f = field_at s 0
 
   -- the test of tag and length is the field's
-  pub told : (tag size : ℕ) (r b : Bool) → r ≡ (eqb h.tag tag && eqb h.len size) → r ≡ b → is_field f tag size ≡ b
+  told : (tag size : ℕ) → is_field f tag size ≡ (eqb h.tag tag && eqb h.len size)
   unfolding field_at
-  told tag size r b e t =
-      ap₂ (λ (m n : ℕ). eqb m tag && eqb n size) (sym w.tag) (whole_length s 0 h w) ∙ sym e ∙ t
+  told tag size = ap₂ (λ (m n : ℕ). eqb m tag && eqb n size) (sym w.tag) (whole_length s 0 h w)
 
-  pub sized : (tag size : ℕ) (r : Bool) → r ≡ (eqb h.tag tag && eqb h.len size) → r ≡ true → (h.len ≡ size) × (h.start + size ≤ length s)
-  sized tag size r e t =
-      let n : h.len ≡ size = eqb-true h.len size (and_right (eqb h.tag tag) (eqb h.len size) (sym e ∙ t)) in
-      let a = w.start in
-      let b = w.next in
-      let i = w.inside in
-      (n, omega arith)
+  is : (tag size : ℕ) → h.tag ≡ tag → h.len ≡ size → is_field f tag size ≡ true
+  is tag size t n = rw (told tag size, eq-eqb h.tag tag t, eq-eqb h.len size n) refl
+
+  other : (tag size : ℕ) → (h.tag ≡ tag → h.len ≡ size → ⊥) → is_field f tag size ≡ false
+  other tag size apart =
+      decide (is_field f tag size)
+      (λ e.
+      let both : (eqb h.tag tag && eqb h.len size) ≡ true = sym (told tag size) ∙ e in
+      absurd (apart (eqb-true _ _ (and_left (eqb h.tag tag) (eqb h.len size) both)) (eqb-true _ _ (and_right (eqb h.tag tag) (eqb h.len size) both))))
+      (λ e. e)
 
   first_byte : 0 < h.len → get_or f.value 0 0 ≡ get_or s h.start 0
   first_byte p = let z : h.start + 0 ≡ h.start = omega arith in whole_byte s 0 h w 0 p ∙ ap (λ (k : ℕ). get_or s k 0) z
 
   -- what the code returns for each call
-  pub close_entry : (cell first last : ℕ) → close_size ≤ h.len → is_field f close_tag close_size ≡ true
+  pub close_entry : h.tag ≡ close_tag → h.len ≡ close_size → (cell first last : ℕ)
       → cell ≡ u16_at s (h.start + 1) → first ≡ u16_at s (h.start + 3) → last ≡ u16_at s (h.start + 5)
       → Call (Close (get_or s h.start 0) cell first last) ≡ entry_by f
   unfolding entry_by call_of
-  close_entry cell first last p e x a b =
+  close_entry t n cell first last x a b =
       rw (
-        e,
+        is close_tag close_size t n,
         first_byte (omega arith),
         whole_u16 s 0 h w 1 (omega arith),
         whole_u16 s 0 h w 3 (omega arith),
@@ -110,20 +112,20 @@ module _ (s : List ℕ) (h : Header) (w : Whole s 0 h) where
         b,
       ) refl
 
-  pub withdraw_entry : withdraw_size ≤ h.len → is_field f close_tag close_size ≡ false → is_field f withdraw_tag withdraw_size ≡ true
-      → Call (Withdraw (get_or s h.start 0)) ≡ entry_by f
+  pub withdraw_entry : h.tag ≡ withdraw_tag → h.len ≡ withdraw_size → Call (Withdraw (get_or s h.start 0)) ≡ entry_by f
   unfolding entry_by call_of
-  withdraw_entry p c e = rw (c, e, first_byte p) refl
+  withdraw_entry t n =
+      rw (other close_tag close_size (λ a b. omega arith), is withdraw_tag withdraw_size t n, first_byte (omega arith)) refl
 
-  pub route_entry : (start tick goal dwell : ℕ) → route_size ≤ h.len → is_field f close_tag close_size ≡ false → is_field f withdraw_tag withdraw_size ≡ false → is_field f route_tag route_size ≡ true
+  pub route_entry : h.tag ≡ route_tag → h.len ≡ route_size → (start tick goal dwell : ℕ)
       → start ≡ u16_at s (h.start + 1) → tick ≡ u16_at s (h.start + 3) → goal ≡ u16_at s (h.start + 5) → dwell ≡ u16_at s (h.start + 7)
       → Call (Route (get_or s h.start 0) start tick goal dwell) ≡ entry_by f
   unfolding entry_by call_of
-  route_entry start tick goal dwell p c d e a b g x =
+  route_entry t n start tick goal dwell a b g x =
       rw (
-        c,
-        d,
-        e,
+        other close_tag close_size (λ k l. omega arith),
+        other withdraw_tag withdraw_size (λ k l. omega arith),
+        is route_tag route_size t n,
         first_byte (omega arith),
         whole_u16 s 0 h w 1 (omega arith),
         whole_u16 s 0 h w 3 (omega arith),
@@ -135,12 +137,20 @@ module _ (s : List ℕ) (h : Header) (w : Whole s 0 h) where
         x,
       ) refl
 
-  pub post_entry : is_field f close_tag close_size ≡ false → is_field f withdraw_tag withdraw_size ≡ false → is_field f route_tag route_size ≡ false → is_field f post_tag 0 ≡ true
-      → Call Post ≡ entry_by f
+  pub post_entry : h.tag ≡ post_tag → h.len ≡ 0 → Call Post ≡ entry_by f
   unfolding entry_by call_of
-  post_entry c d e g = rw (c, d, e, g) refl
+  post_entry t n =
+      rw (
+        other close_tag close_size (λ a b. omega arith),
+        other withdraw_tag withdraw_size (λ a b. omega arith),
+        other route_tag route_size (λ a b. omega arith),
+        is post_tag 0 t n,
+      ) refl
 
-  pub bad_entry : is_field f close_tag close_size ≡ false → is_field f withdraw_tag withdraw_size ≡ false → is_field f route_tag route_size ≡ false → is_field f post_tag 0 ≡ false
+  pub bad_entry : (h.tag ≡ close_tag → h.len ≡ close_size → ⊥)
+      → (h.tag ≡ withdraw_tag → h.len ≡ withdraw_size → ⊥)
+      → (h.tag ≡ route_tag → h.len ≡ route_size → ⊥)
+      → (h.tag ≡ post_tag → h.len ≡ 0 → ⊥)
       → Bad ≡ entry_by f
   unfolding entry_by call_of
-  bad_entry c d e g = rw (c, d, e, g) refl
+  bad_entry c d r p = rw (other close_tag close_size c, other withdraw_tag withdraw_size d, other route_tag route_size r, other post_tag 0 p) refl

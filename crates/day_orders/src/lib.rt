@@ -1,7 +1,7 @@
 // The script's fields as calls: how much is read of a field, and which call it asks for.
 #![tactic(auto)]
 
-ghost use Rattle.std.specs.Prelude.{◌≡◌, ◌&&◌, ◌≤◌, eqb};
+ghost use Rattle.std.specs.Prelude.{◌≡◌, ◌≤◌};
 ghost use Rattle.meaning.specs.Limits.{route_size};
 ghost use Rattle.meaning.specs.Fields.{fields};
 ghost use Rattle.meaning.specs.Day.{wanted};
@@ -61,47 +61,32 @@ pub fn wanted(header: &[u8]) -> usize
     n
 }
 
-// Are the tag and the length those of a call?
-fn is_call(tag: u8, len: usize, call: u8, size: usize) -> bool
-    ensures { result ≡ (eqb tag call && eqb len size) }
-{
-    if tag == call {
-        return len == size;
-    }
-    false
-}
-
 // The call of a whole field at the front of the bytes.
 fn field_entry(bytes: &[u8], h: Header) -> Entry
     requires { Whole bytes.now 0 h }
     ensures { result ≡ entry_by (field_at bytes.now 0) }
 {
-    let tag = h.tag;
     let at = h.start;
-    let len = h.len;
-    if is_call(tag, len, CLOSE, CLOSE_SIZE) {
-        let holder = bytes[at];
-        let cell = fields::u16_at(bytes, at + 1);
-        let first = fields::u16_at(bytes, at + 3);
-        let last = fields::u16_at(bytes, at + 5);
-        return Entry::Call(Order::Close(holder, cell, first, last));
+    match (h.tag, h.len) {
+        (CLOSE, CLOSE_SIZE) => {
+            let holder = bytes[at];
+            let cell = fields::u16_at(bytes, at + 1);
+            let first = fields::u16_at(bytes, at + 3);
+            let last = fields::u16_at(bytes, at + 5);
+            Entry::Call(Order::Close(holder, cell, first, last))
+        }
+        (WITHDRAW, WITHDRAW_SIZE) => Entry::Call(Order::Withdraw(bytes[at])),
+        (ROUTE, ROUTE_SIZE) => {
+            let tug = bytes[at];
+            let start = fields::u16_at(bytes, at + 1);
+            let tick = fields::u16_at(bytes, at + 3);
+            let goal = fields::u16_at(bytes, at + 5);
+            let dwell = fields::u16_at(bytes, at + 7);
+            Entry::Call(Order::Route(tug, start, tick, goal, dwell))
+        }
+        (POST, POST_SIZE) => Entry::Call(Order::Post),
+        _ => Entry::Bad,
     }
-    if is_call(tag, len, WITHDRAW, WITHDRAW_SIZE) {
-        let holder = bytes[at];
-        return Entry::Call(Order::Withdraw(holder));
-    }
-    if is_call(tag, len, ROUTE, ROUTE_SIZE) {
-        let tug = bytes[at];
-        let start = fields::u16_at(bytes, at + 1);
-        let tick = fields::u16_at(bytes, at + 3);
-        let goal = fields::u16_at(bytes, at + 5);
-        let dwell = fields::u16_at(bytes, at + 7);
-        return Entry::Call(Order::Route(tug, start, tick, goal, dwell));
-    }
-    if is_call(tag, len, POST, POST_SIZE) {
-        return Entry::Call(Order::Post);
-    }
-    Entry::Bad
 }
 
 // The call of the first field of the bytes.

@@ -1,20 +1,19 @@
 -- What a call and a turn of the day come to.
 -- Assumes nothing.
-use Rattle.std.specs.Prelude.{ℕ, false}
-use Rattle.answers.specs.declared.Answer.{Answer}
+use Rattle.std.specs.Prelude.{ℕ, Result, Ok, Err, None}
+use Rattle.answers.specs.declared.Refusal.{Refusal}
 use Rattle.answers.specs.declared.Granted.{Granted}
-use Rattle.answers.specs.declared.Granted.TheVariants as G
-use Rattle.answers.specs.Answers.{number_of}
+use Rattle.answers.specs.Answers.{number, number_of}
 use Rattle.day_results.specs.declared.CallResult.{CallResult}
 use Rattle.day_results.specs.declared.Outcome.{Outcome}
 
-abbrev pub changed_result : Answer → ℕ → CallResult
+abbrev pub changed_result : Result Unit Refusal → ℕ → CallResult
 changed_result a light = record { number = number_of a; arrival = 0; light = light }
 
-abbrev pub routed_result : Granted → ℕ → CallResult
-routed_result (G.Granted len arrival) last = record { number = 0; arrival = arrival; light = len }
-routed_result (G.Refused n) last = record { number = n; arrival = 0; light = last }
+abbrev pub routed_result : Result Granted Refusal → ℕ → CallResult
+routed_result (Ok g) last = record { number = 0; arrival = g.arrival; light = g.len }
+routed_result (Err r) last = record { number = number r; arrival = 0; light = last }
 
 -- the outcome of a turn after which the program ends
-abbrev pub last_turn : ℕ → ℕ → Outcome
-last_turn light text = record { going = false; light = light; text = text }
+abbrev pub last_turn : ℕ → Outcome
+last_turn text = record { text = text; next = None }

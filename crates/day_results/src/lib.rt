@@ -5,9 +5,10 @@ ghost use Rattle.std.specs.Prelude.{◌≡◌, ◌≤◌};
 ghost use Rattle.meaning.specs.Limits.{day_area};
 ghost use Rattle.day_results.specs.Results.{changed_result, routed_result, last_turn};
 
-use answers::{Answer, Granted};
+use answers::{Granted, Refusal};
 
-// A call's number, the arrival of a granted route, and the length of the last granted light.
+// A call's number, the arrival of a granted route, and the length of the last granted light. All three are printed or kept whatever the answer was,
+// so this is no Result.
 #[derive(Clone, Copy)]
 pub struct CallResult {
     pub number: u8,
@@ -16,57 +17,49 @@ pub struct CallResult {
 }
 
 // A call that grants no light leaves the last one.
-pub fn changed(a: Answer, light: usize) -> CallResult
+pub fn changed(a: Result<(), Refusal>, light: usize) -> CallResult
     ensures { result ≡ changed_result a light }
 {
-    match a {
-        Answer::Accepted => CallResult {
-            number: 0,
-            arrival: 0,
-            light,
-        },
-        Answer::Refused(n) => CallResult {
-            number: n,
-            arrival: 0,
-            light,
-        },
+    let number = match a {
+        Ok(()) => 0,
+        Err(r) => u8::from(r),
+    };
+    CallResult {
+        number,
+        arrival: 0,
+        light,
     }
 }
 
 // A granted route has a new light, and a refused one leaves the last.
-pub fn routed(g: Granted, last: usize) -> CallResult
+pub fn routed(g: Result<Granted, Refusal>, last: usize) -> CallResult
     requires { last ≤ day_area }
     ensures { (result ≡ routed_result g last) × (result.light ≤ day_area) }
 {
     match g {
-        Granted::Granted(len, arrival) => CallResult {
+        Ok(granted) => CallResult {
             number: 0,
-            arrival,
-            light: len as usize,
+            arrival: granted.arrival,
+            light: usize::from(granted.len),
         },
-        Granted::Refused(n) => CallResult {
-            number: n,
+        Err(r) => CallResult {
+            number: u8::from(r),
             arrival: 0,
             light: last,
         },
     }
 }
 
-// What a turn came to: whether the program goes on, the length of the last granted light, and that of the text.
+// What a turn came to: the length of its text, and that of the last granted light if the program goes on.
 #[derive(Clone, Copy)]
 pub struct Outcome {
-    pub going: bool,
-    pub light: usize,
     pub text: usize,
+    pub next: Option<usize>,
 }
 
 // The program ends after this text.
-pub fn ended(light: usize, text: usize) -> Outcome
-    ensures { result ≡ last_turn light text }
+pub fn ended(text: usize) -> Outcome
+    ensures { result ≡ last_turn text }
 {
-    Outcome {
-        going: false,
-        light,
-        text,
-    }
+    Outcome { text, next: None }
 }

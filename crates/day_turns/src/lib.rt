@@ -6,7 +6,7 @@ ghost use Rattle.meaning.specs.Limits.{header};
 ghost use Rattle.meaning.specs.Fields.{fields};
 ghost use Rattle.day_orders.specs.Orders.{call_by};
 ghost use Rattle.day_calls.specs.Performed.{Areas, day_at};
-ghost use Rattle.day_turns.specs.Turns.{LineWritten, Turned};
+ghost use Rattle.day_turns.specs.Turns.{day_if, LineWritten, Turned};
 
 use day_lines::LINE;
 use day_orders::{Entry, Order};
@@ -24,20 +24,19 @@ fn perform_line(
 ) -> Outcome
     requires areas { Areas (length out.old) (length words.old) light }
     requires header_in_bounds { header ≤ length board.old }
-    ensures { LineWritten file.now (day_at board.old out.old light) (call_by (take light out.old) o) result line.new (day_at board.new out.new result.light) }
+    ensures { LineWritten file.now (day_at board.old out.old light) (call_by (take light out.old) o) result line.new (day_if board.new out.new result.next) }
 {
     let done = day_calls::perform(file, board, out, words, light, o);
     let edition = board::read_edition(board);
     let text = day_lines::write_line(
         line,
-        done.number as u64,
-        edition as u64,
-        done.arrival as u64,
+        u64::from(done.number),
+        u64::from(edition),
+        u64::from(done.arrival),
     );
     Outcome {
-        going: true,
-        light: done.light,
         text,
+        next: Some(done.light),
     }
 }
 
@@ -55,11 +54,11 @@ pub fn turn(
 ) -> Outcome
     requires areas { Areas (length out.old) (length words.old) light }
     requires header_in_bounds { header ≤ length board.old }
-    ensures { Turned file.now first (fields bytes.now) (day_at board.old out.old light) result line.new (day_at board.new out.new result.light) }
+    ensures { Turned file.now first (fields bytes.now) (day_at board.old out.old light) result line.new (day_if board.new out.new result.next) }
 {
     match day_orders::read_entry(bytes) {
         Entry::Call(o) => perform_line(file, board, out, words, light, o, line),
-        Entry::Bad => day_results::ended(light, day_lines::write_line(line, 99, 0, 0)),
-        Entry::End => day_results::ended(light, day_lines::write_end(line, first)),
+        Entry::Bad => day_results::ended(day_lines::write_line(line, 99, 0, 0)),
+        Entry::End => day_results::ended(day_lines::write_end(line, first)),
     }
 }

@@ -10,22 +10,22 @@ pub returns-in-Close-clause-performed : goal.returns-in-Close-clause-performed
 returns-in-Close-clause-performed c =
     let a = c.args in
     (changed_performed a.file.now a.board.now a.out.now a.light (close _ _ _ _) tt _ _ _ _ (ap (call_by (take a.light a.out.now)) c.in-Close.is)
-    c.close.ensures.value c.close.ensures.board_after c.changed.ensures c.requires.light_inside).0
+    c.close.ensures.number c.close.ensures.board_after c.changed.ensures c.requires.light_inside).0
 
 pub returns-in-Withdraw-clause-performed : goal.returns-in-Withdraw-clause-performed
 returns-in-Withdraw-clause-performed c =
     let a = c.args in
     (changed_performed a.file.now a.board.now a.out.now a.light (withdraw _) tt _ _ _ _ (ap (call_by (take a.light a.out.now)) c.in-Withdraw.is)
-    c.withdraw.ensures.value c.withdraw.ensures.board_after c.changed-in-Withdraw.ensures c.requires.light_inside).0
+    c.withdraw.ensures.number c.withdraw.ensures.board_after c.changed-in-Withdraw.ensures c.requires.light_inside).0
 
 pub returns-in-Route-clause-performed : goal.returns-in-Route-clause-performed
 returns-in-Route-clause-performed c =
     let a = c.args in
     routed_performed a.file.now a.board.now a.out.now a.words.now a.light _ _ _ _ _ c.requires.out_size c.requires.words_size _ _ _ _ (ap (call_by (take a.light a.out.now)) c.in-Route.is)
-    c.route-g.ensures.value c.route-g.ensures.out_after c.routed.ensures.0
+    c.route-g.ensures.number c.route-g.ensures.values c.route-g.ensures.out_after c.routed.ensures.0
 
 pub returns-in-Post-clause-performed : goal.returns-in-Post-clause-performed
 returns-in-Post-clause-performed c =
     let a = c.args in
     (changed_performed a.file.now a.board.now a.out.now a.light (post _) tt _ _ _ _ (ap (call_by (take a.light a.out.now)) c.in-Post.is)
-    c.post.ensures.value c.post.ensures.board_after c.changed-in-Post.ensures c.requires.light_inside).0
+    c.post.ensures.number c.post.ensures.board_after c.changed-in-Post.ensures c.requires.light_inside).0

@@ -18,12 +18,13 @@ part : (c : After-board_need-need) → lowest (site_refusals c.args.file.now) �
     → c.board_need-need.result ≡ min (board_length (site_of c.args.file.now)) day_area
 part c z = c.board_need-need.ensures.value z ∙ ap (min (board_length (site_of c.args.file.now))) c.requires
 
-pub returns-in-Accepted-clause-by_index : goal.returns-in-Accepted-clause-by_index
-returns-in-Accepted-clause-by_index c =
-    let at = (goal.at.returns-in-Accepted-clause-by_index c).After-board_need-need in
-    opened c.args.file.now c.args.area.now c.board_need-need.result (inside at) (part at) c.in-Accepted.ensures.value _ c.open.ensures.board_after
+pub returns-in-Ok-clause-opens : goal.returns-in-Ok-clause-opens
+returns-in-Ok-clause-opens c =
+    let at = (goal.at.returns-in-Ok-clause-opens c).After-board_need-need in
+    opened c.args.file.now c.args.area.now c.board_need-need.result (inside at) (part at) c.in-Ok.ensures.number _ c.open.ensures.board_after
 
-pub returns-in-Refused-clause-by_index_2 : goal.returns-in-Refused-clause-by_index_2
-returns-in-Refused-clause-by_index_2 c =
-    let at = (goal.at.returns-in-Refused-clause-by_index_2 c).After-board_need-need in
-    refused c.args.file.now c.args.area.now c.board_need-need.result (inside at) (part at) _ c.in-Refused.ensures.value _ _ c.write_line.ensures.prefix_len c.write_line.ensures.line_after
+pub returns-in-Err-clause-refuses : goal.returns-in-Err-clause-refuses
+returns-in-Err-clause-refuses c =
+    let at = (goal.at.returns-in-Err-clause-refuses c).After-board_need-need in
+    refused c.args.file.now c.args.area.now c.board_need-need.result (inside at) (part at) _ c.in-Err.ensures.number _ (c.from-number.ensures ∙ c.from.ensures)
+    _ _ c.write_line.ensures.prefix_len c.write_line.ensures.line_after
