@@ -30,11 +30,15 @@ fn handed_over(sweeps: &[[u8; SWEEP_SIZE]], j: u8) -> bool
 fn last_from(w: Sweep, j: u8) -> u8
     ensures { result ≡ last_from (sweep_of w) j }
 {
-    if j < w.last && site_sweeps::meets(w.first, w.last, j, j) {
-        w.last
-    } else {
-        j
+    // Two tests, each of which gives a number: compiled without a branch. One test by && branches, and the check of a site with many sweeps
+    // takes a third longer.
+    if w.last <= j {
+        return j;
     }
+    if site_sweeps::meets(w.first, w.last, j, j) {
+        return w.last;
+    }
+    j
 }
 
 // An offset up to which single sweeps, one after the other, hand over from `j` on.
