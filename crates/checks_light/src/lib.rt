@@ -25,7 +25,7 @@ const FEW_MOTIONS: usize = 64;
 
 // ---- the checks
 
-// What is known of file, board and light stands in each function's clauses: a struct of the three would only be made and taken apart at each call.
+// What is known of the light stands in each function's clauses: a struct of hall and light would only be made and taken apart at each call.
 
 // The light is valid on the board, by an index with room for so many motions.
 #[tactic(auto, using(crate::proofs::Laws::ready_index))]

@@ -90,6 +90,7 @@ fn walk_steps(
 {
     let mut at = first;
     let mut here = start;
+    // A walk: where the next step stands comes from the one before it.
     loop {
         match light_steps::step_at(light, at) {
             Step::Wait(n, next) => {
@@ -140,6 +141,7 @@ fn motions_named(light: &[u8], first: usize, motions: usize) -> bool
     ensures { (s : Site) → length s.motions ≡ motions → result ≡ all (step_named s) (steps_from light.now first) }
 {
     let mut at = first;
+    // A walk: where the next step stands comes from the one before it.
     loop {
         match light_steps::step_at(light, at) {
             Step::Wait(_, next) => at = next,

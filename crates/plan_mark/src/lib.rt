@@ -76,6 +76,7 @@ fn mark_steps(
 {
     let mut at = first;
     let mut here = start;
+    // A walk: where the next step stands comes from the one before it.
     loop {
         match light_steps::step_at(light, at) {
             Step::Wait(n, next) => {

@@ -84,6 +84,7 @@ fn first_move(scene: &Scene<'_>, lists: &[u16], reached: &[u64], s: usize, t: us
 {
     let k = scene.hall.sizes.motions;
     let mut m = search_lists::listed_at(lists, k + s);
+    // A walk along a list: the next motion is read from it.
     while m < k {
         if move_hit(scene, reached, s, t, m) {
             return Back::Move(m);

@@ -76,6 +76,7 @@ pub fn trace_back(
     let mut s = goal;
     let mut t = arrival;
     path.count = 0;
+    // A walk: the pair before comes from the back pointer.
     while tick < t {
         match search_back::back_at(scene, lists, reached, tick, s, t) {
             Back::Wait => {
