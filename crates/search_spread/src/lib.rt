@@ -23,6 +23,7 @@ fn move_from(block: &Block<'_>, lists: &[u16], s: usize, reached: &mut [u64], no
 {
     let network = &block.network;
     let mut m = search_lists::listed_at(lists, network.motion_count + s);
+    // A walk along a list: the next motion is read from it.
     while m < network.motion_count {
         let new = search_step::move_one(block, m, notes.allowed, notes.known, reached);
         let to = search_site::to_of(network.motions, network.motion_count, m);
