@@ -1,22 +1,24 @@
--- Laws of the answers: a refusal's number and the case for a number; what is meant of a call that is refused, and of one that is not.
+-- Laws of the answers: a refusal's number and the answer for a number; what is meant of a call that is refused, and of one that is not.
 -- Assumes nothing.
 use Prim.Native.Nat.{ℕ, zero, suc, ◌≤◌}
 use native.Mathlib.Omega.{arith}
-use mathlib.Core.Path.{◌≡◌, refl, sym, ap, ◌∙◌}
+use mathlib.Core.Path.{◌≡◌, refl, sym, ap, ap₂, ◌∙◌}
 use mathlib.Core.List.{List, [], ◌∷◌}
 use lib.Dec.{eqb}
 use borrow.Author.Tests.{eqb-true}
-use Rattle.std.specs.Prelude.{true}
+use Rattle.std.specs.Prelude.{true, Result, Ok, Err}
 use Rattle.meaning.specs.Basics.{all_below, Each}
 use Rattle.meaning.specs.Answers as Refuse
 use Rattle.meaning.specs.Answers.{lowest}
 use Rattle.meaning.specs.Site.{Site, site_of, site_refusals}
+use Rattle.meaning.specs.Plan.{Node, node}
 use Rattle.meaning.specs.Calls.{PublicCall, opening, interval, listed, Call, route, audit, post, close, withdraw, Lent, refusals, later_refusals, route_refusals, light_refusals, close_refusals, withdraw_refusals, interval_refusals, changed, Done, accepted_done, refused_done, done_by, meant}
 use Rattle.meaning.proofs.BasicsLaws.{decide, below_at}
 use Rattle.meaning.proofs.CallLaws.{meant_number, meant_by, done_board}
 use Rattle.answers.specs.declared.Refusal.{Refusal}
 use Rattle.answers.specs.declared.Refusal.TheVariants as R
-use Rattle.answers.specs.Answers.{number, number_of, refusal_of, answer_of, counted_of, counted_by, granted_of, granted_by}
+use Rattle.answers.specs.declared.Granted.{Granted}
+use Rattle.answers.specs.Answers.{number, number_of, counted_values, granted_values, number_in, answer_of, counted_of, counted_by, granted_of, granted_by, numbered, refusal_of, named}
 
 -- ---- numbers and cases
 
@@ -107,23 +109,133 @@ call_known file l q =
 pub meant_known : (file : List ℕ) (l : Lent) (q : PublicCall) → (meant file l q).number ≤ 20
 meant_known file l q = let same : (meant file l q).number ≡ lowest (refusals file l q) = meant_number file l q in rw same (call_known file l q)
 
--- ---- answers for a number say it again
+-- ---- the answer for a number says it again, whatever the number is
 
-pub answer_number : (n : ℕ) → n ≤ 20 → number_of (answer_of n) ≡ n
-answer_number zero most = refl
-answer_number (suc n) most = refusal_number (suc n) (omega arith) most
+pub answer_number : (n : ℕ) → number_in (answer_of n) ≡ n
+answer_number zero = refl
+answer_number (suc n) = refl
 
-pub counted_number : (d : Done) → d.number ≤ 20 → number_of (counted_of d) ≡ d.number
-counted_number d most = by d.number most
+pub answered : (r : Result Unit ℕ) (n : ℕ) → r ≡ answer_of n → number_in r ≡ n
+answered r n same = ap number_in same ∙ answer_number n
+
+pub counted_number : (d : Done) → number_in (counted_of d) ≡ d.number
+counted_number d = by d.number
   where
-    by : (n : ℕ) → n ≤ 20 → number_of (counted_by n d.values) ≡ n
+    by : (n : ℕ) → number_in (counted_by n d.values) ≡ n
+    by zero = refl
+    by (suc n) = refl
+
+pub granted_number : (d : Done) → number_in (granted_of d) ≡ d.number
+granted_number d = by d.number
+  where
+    by : (n : ℕ) → number_in (granted_by n d.values) ≡ n
+    by zero = refl
+    by (suc n) = refl
+
+-- and the answer for what is meant of interval and of route says its values
+pub counted_told : (site : Site) (l : Lent) (cell n : ℕ) → counted_values (counted_of (done_by site l (interval cell) n)) ≡ (done_by site l (interval cell) n).values
+unfolding accepted_done refused_done
+counted_told site l cell zero = refl
+counted_told site l cell (suc n) = refl
+
+pub granted_told : (site : Site) (l : Lent) (tug : ℕ) (a : Node) (goal dwell n : ℕ)
+    → granted_values (granted_of (done_by site l (listed (route tug a goal dwell)) n)) ≡ (done_by site l (listed (route tug a goal dwell)) n).values
+unfolding accepted_done refused_done
+granted_told site l tug a goal dwell zero = refl
+granted_told site l tug a goal dwell (suc n) = refl
+
+module _ (file : List ℕ) (l : Lent) (cell : ℕ) where
+  pub counted_number_lem : number_in (counted_of (meant file l (interval cell))) ≡ (meant file l (interval cell)).number
+  counted_number_lem = counted_number (meant file l (interval cell))
+
+  pub counted_values_lem : counted_values (counted_of (meant file l (interval cell))) ≡ (meant file l (interval cell)).values
+  unfolding meant
+  counted_values_lem = counted_told (site_of file) l cell (lowest (refusals file l (interval cell)))
+
+module _ (file : List ℕ) (l : Lent) (tug start tick goal dwell : ℕ) where
+  pub granted_number_lem : number_in (granted_of (meant file l (listed (route tug (node start tick) goal dwell)))) ≡ (meant file l (listed (route tug (node start tick) goal dwell))).number
+  granted_number_lem = granted_number (meant file l (listed (route tug (node start tick) goal dwell)))
+
+  pub granted_values_lem : granted_values (granted_of (meant file l (listed (route tug (node start tick) goal dwell)))) ≡ (meant file l (listed (route tug (node start tick) goal dwell))).values
+  unfolding meant
+  granted_values_lem = granted_told (site_of file) l tug (node start tick) goal dwell (lowest (refusals file l (listed (route tug (node start tick) goal dwell))))
+
+-- ---- an answer with a number in its refusal's place has the answer's number and values, and tells the answer
+
+module _ {A : Type 0} where
+  pub numbered_number : (r : Result A Refusal) → number_in (numbered r) ≡ number_of r
+  numbered_number (Ok x) = refl
+  numbered_number (Err r) = refl
+
+  pub named_back : (r : Result A Refusal) → named (numbered r) ≡ r
+  named_back (Ok x) = refl
+  named_back (Err r) = ap Err (refusal_back r)
+
+  pub numbered_tells : (r s : Result A Refusal) → numbered r ≡ numbered s → r ≡ s
+  numbered_tells r s same = sym (named_back r) ∙ ap named same ∙ named_back s
+
+-- so a call's number, with its values, tells the answer for them
+pub answered_is : (r : Result Unit Refusal) (n : ℕ) → number_of r ≡ n → numbered r ≡ answer_of n
+answered_is (Ok tt) n same = ap answer_of same
+answered_is (Err r) n same = by (number r) (number_least r) ∙ ap answer_of same
+  where
+    by : (m : ℕ) → 1 ≤ m → Err m ≡ answer_of m
+    by zero least = absurd (omega arith)
+    by (suc m) least = refl
+
+pub counted_is : (r : Result ℕ Refusal) (n : ℕ) (values : List ℕ) → number_of r ≡ n → counted_values r ≡ values → numbered r ≡ counted_by n values
+counted_is (Ok k) n values same told = ap₂ counted_by same told
+counted_is (Err r) n values same told = by (number r) [] (number_least r) ∙ ap₂ counted_by same told
+  where
+    by : (m : ℕ) (xs : List ℕ) → 1 ≤ m → Err m ≡ counted_by m xs
+    by zero xs least = absurd (omega arith)
+    by (suc m) xs least = refl
+
+pub granted_is : (r : Result Granted Refusal) (n : ℕ) (values : List ℕ) → number_of r ≡ n → granted_values r ≡ values → numbered r ≡ granted_by n values
+granted_is (Ok g) n values same told = ap₂ granted_by same told
+granted_is (Err r) n values same told = by (number r) [] (number_least r) ∙ ap₂ granted_by same told
+  where
+    by : (m : ℕ) (xs : List ℕ) → 1 ≤ m → Err m ≡ granted_by m xs
+    by zero xs least = absurd (omega arith)
+    by (suc m) xs least = refl
+
+-- ---- and the refusal for the number is the call's, where the number is one of the 20
+
+-- its error is such a number
+abbrev pub HasRefusal : {A : Type 0} → Result A ℕ → Type 0
+HasRefusal (Ok x) = Unit {0}
+HasRefusal (Err n) = (1 ≤ n) × (n ≤ 20)
+
+pub numbered_named : {A : Type 0} (a : Result A ℕ) → HasRefusal a → numbered (named a) ≡ a
+numbered_named (Ok x) h = refl
+numbered_named (Err n) (least, most) = ap Err (refusal_number n least most)
+
+pub named_number : {A : Type 0} (a : Result A ℕ) → HasRefusal a → number_of (named a) ≡ number_in a
+named_number a h = sym (numbered_number (named a)) ∙ ap number_in (numbered_named a h)
+
+pub named_counted : (a : Result ℕ ℕ) → counted_values (named a) ≡ counted_values a
+named_counted (Ok n) = refl
+named_counted (Err n) = refl
+
+pub named_granted : (a : Result Granted ℕ) → granted_values (named a) ≡ granted_values a
+named_granted (Ok g) = refl
+named_granted (Err n) = refl
+
+pub answer_named : (n : ℕ) → n ≤ 20 → number_of (named (answer_of n)) ≡ n
+answer_named zero most = refl
+answer_named (suc n) most = refusal_number (suc n) (omega arith) most
+
+pub counted_named : (d : Done) → d.number ≤ 20 → number_of (named (counted_of d)) ≡ d.number
+counted_named d most = by d.number most
+  where
+    by : (n : ℕ) → n ≤ 20 → number_of (named (counted_by n d.values)) ≡ n
     by zero h = refl
     by (suc n) h = refusal_number (suc n) (omega arith) h
 
-pub granted_number : (d : Done) → d.number ≤ 20 → number_of (granted_of d) ≡ d.number
-granted_number d most = by d.number most
+pub granted_named : (d : Done) → d.number ≤ 20 → number_of (named (granted_of d)) ≡ d.number
+granted_named d most = by d.number most
   where
-    by : (n : ℕ) → n ≤ 20 → number_of (granted_by n d.values) ≡ n
+    by : (n : ℕ) → n ≤ 20 → number_of (named (granted_by n d.values)) ≡ n
     by zero h = refl
     by (suc n) h = refusal_number (suc n) (omega arith) h
 
@@ -138,32 +250,63 @@ refused_tells : (site : Site) (l : Lent) (n : ℕ) → [] ≡ (refused_done site
 unfolding refused_done
 refused_tells site l n = refl
 
+-- a refusal's number is not 0
+answer_refused : (n : ℕ) → 1 ≤ n → Err n ≡ answer_of n
+answer_refused zero h = absurd (omega arith)
+answer_refused (suc n) h = refl
+
 by_refused : (site : Site) (l : Lent) (q : PublicCall) (n : ℕ) → 1 ≤ n → done_by site l q n ≡ refused_done site l n
 by_refused site l q zero h = absurd (omega arith)
 by_refused site l q (suc n) h = refl
 
-module _ (file : List ℕ) (lent : Lent) (q : PublicCall) where
-  -- a refusal applies first
-  module _ (r : Refusal) (first : number r ≡ lowest (refusals file lent q)) where
-    pub refused_number : number r ≡ (meant file lent q).number
-    refused_number = first ∙ sym (meant_number file lent q)
+-- it is n, a refusal's
+abbrev pub RefusedBy : List ℕ → Lent → PublicCall → ℕ → Type 0
+RefusedBy file lent q n = (lowest (refusals file lent q) ≡ n) × (1 ≤ n)
 
-    refused_meant : meant file lent q ≡ refused_done (site_of file) lent (number r)
-    refused_meant = meant_by file lent q (number r) (sym first) ∙ by_refused (site_of file) lent q (number r) (number_least r)
+module _ (file : List ℕ) (lent : Lent) (q : PublicCall) where
+  module _ (n : ℕ) (r : RefusedBy file lent q n) where
+    pub refused_by_number : (meant file lent q).number ≡ n
+    refused_by_number = meant_number file lent q ∙ r.0
+
+    refused_meant : meant file lent q ≡ refused_done (site_of file) lent n
+    refused_meant = meant_by file lent q n r.0 ∙ by_refused (site_of file) lent q n r.1
+
+    pub refused_answer : Err n ≡ answer_of (meant file lent q).number
+    refused_answer = answer_refused n r.1 ∙ sym (ap answer_of refused_by_number)
+
+    pub refused_by_values : [] ≡ (meant file lent q).values
+    refused_by_values = refused_tells (site_of file) lent n ∙ sym (ap (λ (d : Done). d.values) refused_meant)
+
+    pub refused_by_board : lent.board ≡ (meant file lent q).lent.board
+    refused_by_board = (refused_keeps (site_of file) lent n).0 ∙ sym (ap (λ (d : Done). d.lent.board) refused_meant)
+
+    pub refused_by_out : lent.out ≡ (meant file lent q).lent.out
+    refused_by_out = (refused_keeps (site_of file) lent n).1 ∙ sym (ap (λ (d : Done). d.lent.out) refused_meant)
+
+  -- the same of a refusal that applies first
+  module _ (r : Refusal) (first : number r ≡ lowest (refusals file lent q)) where
+    by_first : RefusedBy file lent q (number r)
+    by_first = (sym first, number_least r)
+
+    pub refused_number : number r ≡ (meant file lent q).number
+    refused_number = sym (refused_by_number (number r) by_first)
 
     pub refused_values : [] ≡ (meant file lent q).values
-    refused_values = refused_tells (site_of file) lent (number r) ∙ sym (ap (λ (d : Done). d.values) refused_meant)
+    refused_values = refused_by_values (number r) by_first
 
     pub refused_board : lent.board ≡ (meant file lent q).lent.board
-    refused_board = (refused_keeps (site_of file) lent (number r)).0 ∙ sym (ap (λ (d : Done). d.lent.board) refused_meant)
+    refused_board = refused_by_board (number r) by_first
 
     pub refused_out : lent.out ≡ (meant file lent q).lent.out
-    refused_out = (refused_keeps (site_of file) lent (number r)).1 ∙ sym (ap (λ (d : Done). d.lent.out) refused_meant)
+    refused_out = refused_by_out (number r) by_first
 
   -- none applies
   module _ (none : 0 ≡ lowest (refusals file lent q)) where
     pub accepted_number : 0 ≡ (meant file lent q).number
     accepted_number = none ∙ sym (meant_number file lent q)
+
+    pub accepted_answer : Ok tt ≡ answer_of (meant file lent q).number
+    accepted_answer = ap answer_of accepted_number
 
     pub accepted_meant : accepted_done (site_of file) lent q ≡ meant file lent q
     accepted_meant = sym (meant_by file lent q 0 (sym none))

@@ -1,4 +1,4 @@
--- The answers of the public calls: the number and values of docs/FORMATS.md for each case.
+-- The answers of the public calls: the number and values of docs/FORMATS.md for each case, and the case for each number.
 -- Assumes nothing.
 use Rattle.std.specs.Prelude.{ℕ, zero, suc, ◌-◌, List, [], ◌∷◌, get_or, Result, Ok, Err}
 use Rattle.meaning.specs.Calls.{Done}
@@ -36,19 +36,50 @@ abbrev pub number_of : {A : Type 0} → Result A Refusal → ℕ
 number_of (Ok x) = 0
 number_of (Err r) = number r
 
--- ---- interval, travel: beside 0 the count
+-- ---- interval, travel: beside 0 the count, whatever the error is
 
-abbrev pub counted_values : Result ℕ Refusal → List ℕ
+abbrev pub counted_values : {E : Type 0} → Result ℕ E → List ℕ
 counted_values (Ok n) = n ∷ []
-counted_values (Err r) = []
+counted_values (Err e) = []
 
 -- ---- route: beside 0 the light's length and the arrival
 
-abbrev pub granted_values : Result Granted Refusal → List ℕ
+abbrev pub granted_values : {E : Type 0} → Result Granted E → List ℕ
 granted_values (Ok g) = g.len ∷ g.arrival ∷ []
-granted_values (Err r) = []
+granted_values (Err e) = []
 
--- ---- the case for each number
+-- ---- the answer for each number, whose error is the number itself, so that no two numbers have one answer
+
+abbrev pub number_in : {A : Type 0} → Result A ℕ → ℕ
+number_in (Ok x) = 0
+number_in (Err n) = n
+
+-- no accepted call is Err 0
+abbrev pub answer_of : ℕ → Result Unit ℕ
+answer_of zero = Ok tt
+answer_of (suc n) = Err (suc n)
+
+abbrev pub counted_by : ℕ → List ℕ → Result ℕ ℕ
+counted_by zero values = Ok (get_or values 0 0)
+counted_by (suc n) values = Err (suc n)
+
+abbrev pub counted_of : Done → Result ℕ ℕ
+counted_of d = counted_by d.number d.values
+
+abbrev pub granted_by : ℕ → List ℕ → Result Granted ℕ
+granted_by zero values = Ok (record { len = get_or values 0 0; arrival = get_or values 1 0 })
+granted_by (suc n) values = Err (suc n)
+
+abbrev pub granted_of : Done → Result Granted ℕ
+granted_of d = granted_by d.number d.values
+
+-- ---- a call's answer with the refusal's number in its place
+
+abbrev pub numbered : {A : Type 0} → Result A Refusal → Result A ℕ
+numbered (Ok x) = Ok x
+numbered (Err r) = Err (number r)
+
+-- ---- and with the refusal for its number
 
 -- every refusal, by rising numbers
 abbrev pub every_refusal : List Refusal
@@ -75,24 +106,11 @@ every_refusal =
     ∷ R.NoPicture
     ∷ []
 
--- of a number from 1 to 20; what stands for another is never used
+-- of a number from 1 to 20; the first stands for any other, which has none. So what is said of a call or of a word says its number
+-- (above), and this serves only to show that a number tells its refusal, and that claims about calls are not empty.
 abbrev pub refusal_of : ℕ → Refusal
 refusal_of n = get_or every_refusal (n - 1) R.SiteTooLong
 
-abbrev pub answer_of : ℕ → Result Unit Refusal
-answer_of zero = Ok tt
-answer_of (suc n) = Err (refusal_of (suc n))
-
-abbrev pub counted_by : ℕ → List ℕ → Result ℕ Refusal
-counted_by zero values = Ok (get_or values 0 0)
-counted_by (suc n) values = Err (refusal_of (suc n))
-
-abbrev pub counted_of : Done → Result ℕ Refusal
-counted_of d = counted_by d.number d.values
-
-abbrev pub granted_by : ℕ → List ℕ → Result Granted Refusal
-granted_by zero values = Ok (record { len = get_or values 0 0; arrival = get_or values 1 0 })
-granted_by (suc n) values = Err (refusal_of (suc n))
-
-abbrev pub granted_of : Done → Result Granted Refusal
-granted_of d = granted_by d.number d.values
+abbrev pub named : {A : Type 0} → Result A ℕ → Result A Refusal
+named (Ok x) = Ok x
+named (Err n) = Err (refusal_of n)

@@ -2,14 +2,13 @@
 -- Assumes nothing.
 use Prim.Native.Nat.{ℕ, zero, suc, ◌+◌, ◌*◌, ◌/◌, ◌%◌, ◌≤◌, ◌<◌}
 use native.Mathlib.Omega.{arith}
-use mathlib.Core.Path.{◌≡◌, refl, sym, ap, ap₂, ◌∙◌}
+use mathlib.Core.Path.{◌≡◌, refl, ap, ap₂, ◌∙◌}
 use mathlib.Core.Bool.{true}
 use mathlib.Core.Option.{Option}
 use mathlib.Core.List.{List, [], ◌∷◌}
 use lib.Arith.{digits_mod}
 use lib.Dec.{leb}
 use lib.ListN.{length}
-use Rattle.std.specs.Prelude.{Result, Ok, Err}
 use Rattle.meaning.specs.Basics.{all}
 use Rattle.meaning.specs.Answers.{Refusal, lowest}
 use Rattle.meaning.specs.Site.{Site, site_of, site_refusals}
@@ -23,10 +22,7 @@ use Rattle.meaning.proofs.AnswersLaws.{lowest_most}
 use Rattle.meaning.proofs.SiteLaws.{read_well}
 use Rattle.meaning.proofs.CallLaws.{meant_number, meant_by, accepted_parts, parts_read, granted_found}
 use Rattle.meaning.proofs.Theorems.{all_laws}
-use Rattle.answers.specs.Answers.{number, number_of, refusal_of, counted_values, counted_by, counted_of, granted_values, granted_by, granted_of}
-use Rattle.answers.specs.declared.Refusal.{Refusal as Case}
-use Rattle.answers.specs.declared.Granted.{Granted}
-use Rattle.answers.proofs.Laws.{refusal_back, number_least, refusal_number}
+use Rattle.answers.specs.Answers.{counted_of, granted_of}
 use Rattle.answers_c.specs.Words.{counted_word, granted_word, word_number, beside, counted_in, granted_in}
 
 -- ---- numbers
@@ -55,25 +51,6 @@ granted_back len arrival short =
     let same_length : word / 256 % 16777216 ≡ len = ap (λ (n : ℕ). n % 16777216) high ∙ digits_mod arrival short in
     let same_arrival : word / 4294967296 ≡ arrival = omega arith in
     (number, ap₂ beside number (ap₂ (λ (n t : ℕ). n ∷ t ∷ []) same_length same_arrival))
-
--- ---- answers
-
--- the number and the values tell the answer
-pub counted_is : (r : Result ℕ Case) (n : ℕ) (values : List ℕ) → number_of r ≡ n → counted_values r ≡ values → r ≡ counted_by n values
-counted_is (Ok k) n values same told = ap₂ counted_by same told
-counted_is (Err r) n values same told = by_number (number r) [] (number_least r) refl ∙ ap₂ counted_by same told
-  where
-    by_number : (m : ℕ) (xs : List ℕ) → 1 ≤ m → m ≡ number r → Err r ≡ counted_by m xs
-    by_number zero xs least e = absurd (omega arith)
-    by_number (suc m) xs least e = ap Err (sym (refusal_back r) ∙ ap refusal_of (sym e))
-
-pub granted_is : (r : Result Granted Case) (n : ℕ) (values : List ℕ) → number_of r ≡ n → granted_values r ≡ values → r ≡ granted_by n values
-granted_is (Ok g) n values same told = ap₂ granted_by same told
-granted_is (Err r) n values same told = by_number (number r) [] (number_least r) refl ∙ ap₂ granted_by same told
-  where
-    by_number : (m : ℕ) (xs : List ℕ) → 1 ≤ m → m ≡ number r → Err r ≡ granted_by m xs
-    by_number zero xs least e = absurd (omega arith)
-    by_number (suc m) xs least e = ap Err (sym (refusal_back r) ∙ ap refusal_of (sym e))
 
 -- ---- calls
 
@@ -107,7 +84,7 @@ interval_back file l cell w same = by_number (lowest (refusals file l (interval 
     by_number zero e = rw (same, meant_by file l (interval cell) 0 e) (counted_back _)
     by_number (suc n) e =
         let most = number_most file l (interval cell) in
-        rw (same, meant_by file l (interval cell) (suc n) e, refusal_number (suc n) (omega arith) (omega arith)) (refused_back n _ (omega arith))
+        rw (same, meant_by file l (interval cell) (suc n) e) (refused_back n _ (omega arith))
 
 module _ (file : List ℕ) (l : Lent) (tug : ℕ) (a : Node) (goal dwell : ℕ) where
   abbrev q : PublicCall
@@ -136,4 +113,4 @@ module _ (file : List ℕ) (l : Lent) (tug : ℕ) (a : Node) (goal dwell : ℕ) 
       by_number zero e = rw (same, meant_by file l q 0 e) (granted_back _ _ (light_short e))
       by_number (suc n) e =
           let most = number_most file l q in
-          rw (same, meant_by file l q (suc n) e, refusal_number (suc n) (omega arith) (omega arith)) (refused_back n _ (omega arith))
+          rw (same, meant_by file l q (suc n) e) (refused_back n _ (omega arith))

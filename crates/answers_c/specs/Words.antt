@@ -1,19 +1,18 @@
 -- The word that a call for C returns, and how its caller reads the number and the values back (include/dispatch.h says the same).
 -- Assumes nothing.
 use Rattle.std.specs.Prelude.{ℕ, zero, suc, ◌+◌, ◌*◌, ◌/◌, ◌%◌, List, [], ◌∷◌, Result, Ok, Err}
-use Rattle.answers.specs.Answers.{number}
 use Rattle.answers.specs.declared.Granted.{Granted}
-use Rattle.answers.specs.declared.Refusal.{Refusal}
 
 -- ---- the word: the number, and beside 0 the count or the light's length times 2 ^ 8 and the arrival times 2 ^ 32
 
-abbrev pub counted_word : Result ℕ Refusal → ℕ
+-- of answers with a number in the refusal's place, since the number is what stands in the word, and each has its own
+abbrev pub counted_word : Result ℕ ℕ → ℕ
 counted_word (Ok n) = n * 256
-counted_word (Err r) = number r
+counted_word (Err n) = n
 
-abbrev pub granted_word : Result Granted Refusal → ℕ
+abbrev pub granted_word : Result Granted ℕ → ℕ
 granted_word (Ok g) = g.len * 256 + g.arrival * 4294967296
-granted_word (Err r) = number r
+granted_word (Err n) = n
 
 -- ---- read back
 
