@@ -4,13 +4,13 @@
 use Prim.Native.Nat.{ℕ, zero, suc, ◌*◌, ◌-◌, ◌≤◌, ◌<◌}
 use native.Mathlib.Omega.{arith}
 use native.Mathlib.Nat.{mul-le-mul_left}
-use mathlib.Core.Path.{◌≡◌, refl, sym, ap, ap₂, ◌∙◌}
+use mathlib.Core.Path.{◌≡◌, refl, sym, ap, ap₂, ◌∙◌, subst}
 use mathlib.Core.Bool.{true, not}
 use mathlib.Core.List.{List, [], ◌∷◌}
 use lib.ListN.{length, get_or}
 use borrow.Author.Tests.{le-ltb, ne_eqb}
 use contract.Lifetimes.{Lfts}
-use Rattle.std.specs.Prelude.{Result, Ok}
+use Rattle.std.specs.Prelude.{Result, Ok, Err}
 use denote.Ref.{Bor}
 use Rattle.meaning.specs.Limits.{last_frame}
 use Rattle.meaning.specs.Basics.{Each}
@@ -25,14 +25,15 @@ use Rattle.meaning.specs.Pictures.{place_on, between, place_between, picture_fro
 use Rattle.meaning.proofs.AnswersLaws.{lowest_clear}
 use Rattle.meaning.proofs.SiteLaws.{read_site_lem, sites_right}
 use Rattle.meaning.proofs.RefusalLaws.{read_light, tells_light}
-use Rattle.meaning.proofs.PictureLaws.{site_passed, draw_accepted, pictures_right}
+use Rattle.meaning.proofs.PictureLaws.{site_passed, draw_accepted, draw_refused, pictures_right}
 use Rattle.draw_pictures.specs.declared.Picture.{Picture}
 use Rattle.draw_pictures.specs.Floats.{float_place, shown}
 use Rattle.draw_pictures.proofs.Theorems.{floats_right}
 use Rattle.answers.specs.declared.Refusal.{Refusal}
-use Rattle.answers.specs.Answers.{number_of}
+use Rattle.answers.specs.Answers.{number_in, numbered, named}
+use Rattle.answers.proofs.Laws.{named_back, numbered_named}
 use Rattle.draw.specs.Drawn.{drawn_of}
-use Rattle.draw.proofs.AnswerLaws.{refused_number}
+use Rattle.draw.proofs.AnswerLaws.{drawn_known}
 use Rattle.draw.specs.Demand.{DrawDesk, DrawExact, ExactlyAt, Exactly, DrawDemand}
 use Rattle.draw.proofs.draw.Reads as draw_reads
 
@@ -108,20 +109,20 @@ exact_demand desk exact = record {
   only_drawn = λ file light i k d may q is. by_number file light i k d may q is _ refl;
 }
   where
-    refused : (file light : List ℕ) (i k : ℕ) (d : Result Picture Refusal) → desk file light i k d → (n : ℕ) → lowest (draw_refusals file light k) ≡ suc n → number_of d ≡ suc n
-    refused file light i k d may n e = ap number_of (exact file light i k d may) ∙ refused_number file light k i n e
+    refused : (file light : List ℕ) (i k : ℕ) (d : Result Picture ℕ) → desk file light i k d → (n : ℕ) → lowest (draw_refusals file light k) ≡ suc n → d ≡ Err (suc n)
+    refused file light i k d may n e = exact file light i k d may ∙ ap drawn_of (draw_refused file light i k n e)
 
-    by_number : (file light : List ℕ) (i k : ℕ) (d : Result Picture Refusal) → desk file light i k d → (q : Picture) → d ≡ Ok q
+    by_number : (file light : List ℕ) (i k : ℕ) (d : Result Picture ℕ) → desk file light i k d → (q : Picture) → d ≡ Ok q
         → (n : ℕ) → lowest (draw_refusals file light k) ≡ n → lowest (draw_refusals file light k) ≡ 0
     by_number file light i k d may q is zero e = e
-    by_number file light i k d may q is (suc n) e = absurd (let z = sym (refused file light i k d may n e) ∙ ap number_of is in omega arith)
+    by_number file light i k d may q is (suc n) e = absurd (let z = ap number_in (sym (refused file light i k d may n e) ∙ is) in omega arith)
 
 -- ---- draw
 
--- `Draws file light step frame drawn`: the contract of draw allows this answer
-pub data Draws : List ℕ → List ℕ → ℕ → ℕ → Result Picture Refusal → Type 0 where
+-- `Draws file light step frame drawn`: the contract of draw allows this answer, read by its number
+pub data Draws : List ℕ → List ℕ → ℕ → ℕ → Result Picture ℕ → Type 0 where
   draws : (κs : Lfts 2) (file light file' light' : Bor (List ℕ)) (step k step' k' : ℕ) (r : Result Picture Refusal)
-      → draw_reads.Learnt κs (file, (light, (step, (k, tt)))) r (file', (light', (step', (k', tt)))) → Draws file.now light.now step k r
+      → draw_reads.Learnt κs (file, (light, (step, (k, tt)))) r (file', (light', (step', (k', tt)))) → Draws file.now light.now step k (numbered r)
 
 pub draw_exact : DrawExact Draws
 draw_exact file light i k d (Draws.draws κs f l f' l' step frame step' frame' r p) = p.0
@@ -129,6 +130,11 @@ draw_exact file light i k d (Draws.draws κs f l f' l' step frame step' frame' r
 -- so it draws the picture that the words say, or gives the lowest number that applies
 pub draw_demand : DrawDemand Draws
 draw_demand = exact_demand Draws draw_exact
+
+-- and the answer itself is the one that is meant
+pub draw_answers : (κs : Lfts 2) (file light file' light' : Bor (List ℕ)) (step k step' k' : ℕ) (r : Result Picture Refusal)
+    → draw_reads.Learnt κs (file, (light, (step, (k, tt)))) r (file', (light', (step', (k', tt)))) → r ≡ named (drawn_of (draw_meant file.now light.now step k))
+draw_answers κs file light file' light' step k step' k' r p = sym (named_back r) ∙ ap named p.0
 
 -- the site file and the light are after the call as they were
 pub unchanged : (κs : Lfts 2) (file light file' light' : Bor (List ℕ)) (step k step' k' : ℕ) (r : Result Picture Refusal)
@@ -141,7 +147,16 @@ asks_nothing κs file light step k = tt
 
 -- and the claim is not empty
 pub draw_can : (file light : List ℕ) (i k : ℕ) → Draws file light i k (drawn_of (draw_meant file light i k))
-draw_can file light i k = Draws.draws ([], ([], tt)) (lend file) (lend light) (lend file) (lend light) i k i k (drawn_of (draw_meant file light i k)) (refl, (refl, refl))
+draw_can file light i k = subst (Draws file light i k) is may
   where
     lend : List ℕ → Bor (List ℕ)
     lend b = record { ref_ptr = (0, 0); now = b }
+
+    answer : Result Picture Refusal
+    answer = named (drawn_of (draw_meant file light i k))
+
+    is : numbered answer ≡ drawn_of (draw_meant file light i k)
+    is = numbered_named (drawn_of (draw_meant file light i k)) (drawn_known file light k i)
+
+    may : Draws file light i k (numbered answer)
+    may = Draws.draws ([], ([], tt)) (lend file) (lend light) (lend file) (lend light) i k i k answer (is, (refl, refl))

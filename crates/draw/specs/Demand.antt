@@ -1,7 +1,7 @@
 -- What is demanded of a draw call, as statements about any desk that draws. A wrong desk is a desk too, and a demand that it meets
 -- would be too weak. `HasValue r false n 16` of lib.Ieee.Exact says that the float r is finite, not negative and exactly n / 16.
 -- Assumes nothing.
-use Rattle.std.specs.Prelude.{ℕ, suc, ◌≤◌, ◌≡◌, false, List, length, Result, Ok}
+use Rattle.std.specs.Prelude.{ℕ, suc, ◌≤◌, ◌≡◌, false, List, length, Result, Ok, Err}
 use Rattle.std.specs.Float.Ieee.Exact.{HasValue}
 use Rattle.meaning.specs.Basics.{Bytes}
 use Rattle.meaning.specs.Answers.{lowest, accepted}
@@ -14,16 +14,14 @@ use Rattle.meaning.specs.DrawnPictures.{Shown as IsPicture}
 use Rattle.draw_pictures.specs.declared.Place.{Place}
 use Rattle.draw_pictures.specs.declared.Picture.{Picture}
 use Rattle.draw_pictures.specs.declared.Picture.TheVariants.{OffFloor, Standing, Rolling}
-use Rattle.answers.specs.declared.Refusal.{Refusal}
-use Rattle.answers.specs.Answers.{number_of}
 use Rattle.draw.specs.Drawn.{drawn_of}
 
--- `desk file light step frame drawn`: with these the call may return this
+-- `desk file light step frame drawn`: with these the call may return this, where a refusal is its number
 abbrev pub DrawDesk : Type 1
-DrawDesk = (file light : List ℕ) (step frame : ℕ) → Result Picture Refusal → Type 0
+DrawDesk = (file light : List ℕ) (step frame : ℕ) → Result Picture ℕ → Type 0
 
 abbrev pub DrawExact : DrawDesk → Type 0
-DrawExact desk = (file light : List ℕ) (i k : ℕ) (d : Result Picture Refusal) → desk file light i k d → d ≡ drawn_of (draw_meant file light i k)
+DrawExact desk = (file light : List ℕ) (i k : ℕ) (d : Result Picture ℕ) → desk file light i k d → d ≡ drawn_of (draw_meant file light i k)
 
 -- ---- the same in words
 
@@ -45,10 +43,10 @@ Exactly (Rolling q s) (Exact.rolling_at p k) = ExactlyAt q p × HasValue s false
 
 pub record DrawDemand (desk : DrawDesk) : Type 0 where
   -- of an accepted site with centres, a light of its states and motions and a frame up to 16, the picture of the step
-  pub drawn : (file light : List ℕ) (i k : ℕ) (d : Result Picture Refusal) → desk file light i k d → Bytes file
+  pub drawn : (file light : List ℕ) (i k : ℕ) (d : Result Picture ℕ) → desk file light i k d → Bytes file
       → (site : Site) → read_site file ≡ accepted site → (x : Light) → LightBytes light x → LightKnown site x → k ≤ 16 → Not (length site.centres ≡ 0)
       → (q : Picture) × (p : Exact.Picture) × IsPicture site x k i p × Exactly q p × (d ≡ Ok q)
   -- else the lowest number that applies
-  pub refused : (file light : List ℕ) (i k : ℕ) (d : Result Picture Refusal) → desk file light i k d → (n : ℕ) → lowest (draw_refusals file light k) ≡ suc n → number_of d ≡ suc n
+  pub refused : (file light : List ℕ) (i k : ℕ) (d : Result Picture ℕ) → desk file light i k d → (n : ℕ) → lowest (draw_refusals file light k) ≡ suc n → d ≡ Err (suc n)
   -- and never a picture where one applies
-  pub only_drawn : (file light : List ℕ) (i k : ℕ) (d : Result Picture Refusal) → desk file light i k d → (q : Picture) → d ≡ Ok q → lowest (draw_refusals file light k) ≡ 0
+  pub only_drawn : (file light : List ℕ) (i k : ℕ) (d : Result Picture ℕ) → desk file light i k d → (q : Picture) → d ≡ Ok q → lowest (draw_refusals file light k) ≡ 0

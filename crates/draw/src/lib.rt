@@ -17,7 +17,7 @@ ghost use Rattle.draw_pictures.specs.Floats.{shown};
 ghost use Rattle.draw.specs.Drawable.{LightDrawable};
 ghost use Rattle.draw.specs.Drawings.{site_drawn};
 ghost use Rattle.draw.specs.Steps.{stands_in};
-ghost use Rattle.answers.specs.Answers.{number_of};
+ghost use Rattle.answers.specs.Answers.{number_of, numbered};
 ghost use Rattle.draw.specs.Drawn.{drawn_of};
 
 use answers::Refusal;
@@ -129,7 +129,7 @@ fn check_picture(sizes: Sizes, light: &[u8], k: u8) -> Result<(), Refusal>
 
 // What a screen shows of a light: the picture of a step, from 0 on, at frame `k`. It makes the checks 1 to 6, 8, 10 and 20, and no others.
 pub fn draw(file: &[u8], light: &[u8], step: u16, k: u8) -> Result<Picture, Refusal>
-    ensures value { result ≡ drawn_of (draw_meant file.now light.now step k) }
+    ensures value { numbered result ≡ drawn_of (draw_meant file.now light.now step k) }
     ensures file_unchanged { file.exit.now ≡ file.entry.now }
     ensures light_unchanged { light.exit.now ≡ light.entry.now }
 {

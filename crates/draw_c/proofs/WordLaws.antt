@@ -2,20 +2,21 @@
 -- Assumes nothing.
 use Prim.Native.Nat.{ℕ, zero, suc, ◌%◌, ◌≤◌}
 use native.Mathlib.Omega.{arith}
-use mathlib.Core.Path.{◌≡◌, refl, ap, ◌∙◌}
+use mathlib.Core.Path.{◌≡◌, refl, ap}
 use mathlib.Core.List.{List}
 use Rattle.std.specs.Prelude.{Ok, Err}
 use Rattle.meaning.specs.Answers.{lowest, answer}
 use Rattle.meaning.specs.Site.{site_of}
 use Rattle.meaning.specs.Light.{light_of}
 use Rattle.meaning.specs.Pictures.{picture_of, draw_refusals, draw_meant}
-use Rattle.answers.specs.Answers.{number, refusal_of}
-use Rattle.answers.proofs.Laws.{refusal_number}
+use Rattle.answers.specs.Answers.{number_in}
+use Rattle.answers_c.specs.Words.{word_number}
 use Rattle.draw_pictures.specs.declared.Picture.{Picture}
 use Rattle.draw_pictures.specs.declared.Picture.TheVariants.{OffFloor, Standing, Rolling}
 use Rattle.draw_pictures.specs.Floats.{shown}
 use Rattle.draw.specs.Drawn.{drawn_of}
 use Rattle.draw.proofs.AnswerLaws.{draw_known}
+use Rattle.draw_c.specs.declared.DrawnWord.{DrawnWord}
 use Rattle.draw_c.specs.Words.{picture_word, drawn_word, drawn_by, drawn_in}
 
 picture_back : (p : Picture) → drawn_in (picture_word p) ≡ Ok p
@@ -23,10 +24,18 @@ picture_back OffFloor = refl
 picture_back (Standing p) = refl
 picture_back (Rolling p s) = refl
 
-refused_back : (n : ℕ) → suc n ≤ 20 → drawn_in (drawn_word (Err (refusal_of (suc n)))) ≡ Err (refusal_of (suc n))
+refused_back : (n : ℕ) → suc n ≤ 20 → drawn_in (drawn_word (Err (suc n))) ≡ Err (suc n)
 refused_back n most =
-    let small : number (refusal_of (suc n)) % 256 ≡ suc n = ap (λ (m : ℕ). m % 256) (refusal_number (suc n) (omega arith) most) ∙ omega arith in
-    ap (λ (m : ℕ). drawn_by m (drawn_word (Err (refusal_of (suc n))))) small
+    let small : suc n % 256 ≡ suc n = omega arith in
+    ap (λ (m : ℕ). drawn_by m (drawn_word (Err (suc n)))) small
+
+-- whatever the word, its number is the one that is read
+pub number_read : (r : DrawnWord) → number_in (drawn_in r) ≡ word_number r.word
+number_read r = by (word_number r.word)
+  where
+    by : (n : ℕ) → number_in (drawn_by n r) ≡ n
+    by zero = refl
+    by (suc n) = refl
 
 pub drawn_back : (file light : List ℕ) (i k : ℕ) → drawn_in (drawn_word (drawn_of (draw_meant file light i k))) ≡ drawn_of (draw_meant file light i k)
 unfolding draw_meant answer

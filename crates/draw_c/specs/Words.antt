@@ -5,8 +5,6 @@ use Rattle.std.specs.Float.{binary32}
 use Rattle.std.specs.Float.Ieee.{of_bits}
 use Rattle.draw_pictures.specs.declared.Picture.{Picture}
 use Rattle.draw_pictures.specs.declared.Picture.TheVariants.{OffFloor, Standing, Rolling}
-use Rattle.answers.specs.declared.Refusal.{Refusal}
-use Rattle.answers.specs.Answers.{number, refusal_of}
 use Rattle.answers_c.specs.Words.{word_number, word_count}
 use Rattle.draw_c.specs.declared.DrawnWord.{DrawnWord}
 
@@ -21,9 +19,9 @@ picture_word OffFloor = record { word = 0; x = none; y = none; share = none }
 picture_word (Standing p) = record { word = 256; x = p.x; y = p.y; share = none }
 picture_word (Rolling p s) = record { word = 512; x = p.x; y = p.y; share = s }
 
-abbrev pub drawn_word : Result Picture Refusal → DrawnWord
+abbrev pub drawn_word : Result Picture ℕ → DrawnWord
 drawn_word (Ok p) = picture_word p
-drawn_word (Err r) = record { word = number r; x = none; y = none; share = none }
+drawn_word (Err n) = record { word = n; x = none; y = none; share = none }
 
 -- ---- read back
 
@@ -33,9 +31,10 @@ picture_by zero r = OffFloor
 picture_by (suc zero) r = Standing (record { x = r.x; y = r.y })
 picture_by (suc (suc n)) r = Rolling (record { x = r.x; y = r.y }) r.share
 
-abbrev pub drawn_by : ℕ → DrawnWord → Result Picture Refusal
+-- a number is read as it stands in the word, also one that no call answers, so that no two are read alike
+abbrev pub drawn_by : ℕ → DrawnWord → Result Picture ℕ
 drawn_by zero r = Ok (picture_by (word_count r.word) r)
-drawn_by (suc n) r = Err (refusal_of (suc n))
+drawn_by (suc n) r = Err (suc n)
 
-abbrev pub drawn_in : DrawnWord → Result Picture Refusal
+abbrev pub drawn_in : DrawnWord → Result Picture ℕ
 drawn_in r = drawn_by (word_number r.word) r

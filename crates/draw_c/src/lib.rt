@@ -4,7 +4,6 @@
 ghost use Rattle.std.specs.Prelude.{◌≡◌};
 ghost use Rattle.draw_c.specs.Words.{picture_word, drawn_word};
 
-use answers::Refusal;
 use draw_pictures::Picture;
 
 // The kinds of picture, from bit 8 of the word on.
@@ -47,13 +46,13 @@ fn picture_word(p: Picture) -> DrawnWord
     }
 }
 
-pub fn drawn_word(d: Result<Picture, Refusal>) -> DrawnWord
+pub fn drawn_word(d: Result<Picture, u8>) -> DrawnWord
     ensures { result ≡ drawn_word d }
 {
     match d {
         Ok(p) => picture_word(p),
-        Err(r) => DrawnWord {
-            word: u64::from(u8::from(r)),
+        Err(n) => DrawnWord {
+            word: u64::from(n),
             x: 0.0,
             y: 0.0,
             share: 0.0,
