@@ -1,23 +1,22 @@
 -- The demands, of the public calls themselves: over what their contracts promise, and nothing else of the code.
 -- `Learnt` and its arguments are those of crates/desk_board/proofs/ContractLaws.antt.
 -- Assumes nothing.
-use Prim.Native.Nat.{ℕ, zero, suc}
-use mathlib.Core.Path.{◌≡◌, refl, ap, subst}
+use Prim.Native.Nat.{ℕ}
+use mathlib.Core.Path.{◌≡◌, refl, ap, ◌∙◌, subst}
 use mathlib.Core.List.{List, []}
 use contract.Lifetimes.{Lfts}
 use Rattle.std.specs.Prelude.{Result}
 use denote.Ref.{Bor, MutBor}
-use Rattle.meaning.specs.Calls.{PublicCall, opening, interval, listed, Call, route, audit, post, close, withdraw, Lent, lends, on_board, Done, accepted_done, refused_done, done_by, meant}
+use Rattle.meaning.specs.Calls.{PublicCall, opening, interval, listed, Call, route, audit, post, close, withdraw, Lent, lends, on_board, Done, meant}
 use Rattle.meaning.specs.Demands.{Exact, Demand1, Demand2, Demand3, Follows}
 use Rattle.meaning.proofs.Theorems.{exact_demands}
-use Rattle.meaning.specs.Site.{Site, site_of}
 use Rattle.meaning.specs.Plan.{Node, node}
 use Rattle.travel_runs.specs.Travel.{Returned, travel_meant, TravelExact, TravelDemand}
 use Rattle.travel_runs.proofs.Theorems.{travel_right}
 use Rattle.answers.specs.declared.Refusal.{Refusal}
 use Rattle.answers.specs.declared.Granted.{Granted}
-use Rattle.answers.specs.Answers.{number_of, answer_of, counted_values, counted_of, granted_values, granted_of}
-use Rattle.answers.proofs.Laws.{meant_known, answer_number, counted_number, granted_number}
+use Rattle.answers.specs.Answers.{number_of, answer_of, counted_values, counted_of, granted_values, granted_of, named}
+use Rattle.answers.proofs.Laws.{meant_known, answer_named, counted_named, granted_named, named_counted, named_granted, counted_values_lem, granted_values_lem}
 use Rattle.travel.specs.Timed.{timed_returned, timed_of}
 use Rattle.answers.proofs.DeskLaws.{board_done, lifetimes, lend, lend_mut, turns, AllowsSome, allows_meant, every_run}
 use Rattle.desk_board.proofs.ContractLaws.{open_meant, interval_meant}
@@ -142,18 +141,6 @@ asks_nothing = record {
 
 -- ---- the claims are not empty: the contracts allow what is meant of every call, and so a run of every list
 
--- the case for what is meant of interval and of route says its values
-counted_told : (site : Site) (l : Lent) (cell n : ℕ) → counted_values (counted_of (done_by site l (interval cell) n)) ≡ (done_by site l (interval cell) n).values
-unfolding accepted_done refused_done
-counted_told site l cell zero = refl
-counted_told site l cell (suc n) = refl
-
-granted_told : (site : Site) (l : Lent) (tug : ℕ) (a : Node) (goal dwell n : ℕ)
-    → granted_values (granted_of (done_by site l (listed (route tug a goal dwell)) n)) ≡ (done_by site l (listed (route tug a goal dwell)) n).values
-unfolding accepted_done refused_done
-granted_told site l tug a goal dwell zero = refl
-granted_told site l tug a goal dwell (suc n) = refl
-
 module _ (file : List ℕ) where
   -- what is meant, of a board alone
   abbrev on_board_done : Lent → PublicCall → Done
@@ -162,37 +149,46 @@ module _ (file : List ℕ) where
   abbrev interval_done : Lent → ℕ → Done
   interval_done l cell = meant file (lends l.board l.out []) (interval cell)
 
-  -- the case for what is meant says its number
-  told : (l : Lent) (q : PublicCall) → number_of (answer_of (on_board_done l q).number) ≡ (on_board_done l q).number
-  told l q = answer_number _ (meant_known file (on_board l.board) q)
+  -- the answers for what is meant, whose numbers are all known
+  abbrev answered_on_board : Lent → PublicCall → Result Unit Refusal
+  answered_on_board l q = named (answer_of (on_board_done l q).number)
+
+  told : (l : Lent) (q : PublicCall) → number_of (answered_on_board l q) ≡ (on_board_done l q).number
+  told l q = answer_named _ (meant_known file (on_board l.board) q)
+
+  counted : (l : Lent) (cell : ℕ) → counted_values (named (counted_of (interval_done l cell))) ≡ (interval_done l cell).values
+  counted l cell = named_counted (counted_of (interval_done l cell)) ∙ counted_values_lem file (lends l.board l.out []) cell
+
+  granted : (l : Lent) (tug : ℕ) (a : Node) (goal dwell : ℕ)
+      → granted_values (named (granted_of (meant file l (listed (route tug a goal dwell))))) ≡ (meant file l (listed (route tug a goal dwell))).values
+  granted l tug a goal dwell = named_granted (granted_of (meant file l (listed (route tug a goal dwell)))) ∙ granted_values_lem file l tug a.state a.tick goal dwell
 
   some : AllowsSome Calls file
-  unfolding meant
   some l opening =
-      (_, Calls.opens (lifetimes 2) (lend file) (lend_mut l.board) (lend file) (lend_mut (on_board_done l opening).lent.board) l.out l.words (answer_of (on_board_done l opening).number) (told l opening, (refl, refl)))
+      (_, Calls.opens (lifetimes 2) (lend file) (lend_mut l.board) (lend file) (lend_mut (on_board_done l opening).lent.board) l.out l.words (answered_on_board l opening) (told l opening, (refl, refl)))
   some l (interval cell) = (
     _,
-    Calls.counts (lifetimes 3) (lend file) (lend l.board) (lend_mut l.out) (lend file) (lend l.board) (lend_mut (interval_done l cell).lent.out) cell cell l.words (counted_of (interval_done l cell))
-        (counted_number (interval_done l cell) (meant_known file (lends l.board l.out []) (interval cell)), (counted_told (site_of file) (lends l.board l.out []) cell _, (refl, (refl, refl)))),
+    Calls.counts (lifetimes 3) (lend file) (lend l.board) (lend_mut l.out) (lend file) (lend l.board) (lend_mut (interval_done l cell).lent.out) cell cell l.words (named (counted_of (interval_done l cell)))
+        (counted_named (interval_done l cell) (meant_known file (lends l.board l.out []) (interval cell)), (counted l cell, (refl, (refl, refl)))),
   )
   some l (listed (route tug a goal dwell)) =
       let is : Done = meant file l (listed (route tug a goal dwell)) in (
         _,
         Calls.routes (lifetimes 4) (lend file) (lend l.board) (lend_mut l.out) (lend_mut l.words) (lend file) (lend l.board) (lend_mut is.lent.out) (lend_mut is.lent.words)
-            tug a.state a.tick goal dwell tug a.state a.tick goal dwell (granted_of is)
-            (granted_number is (meant_known file l (listed (route tug a goal dwell))), (granted_told (site_of file) l tug a goal dwell _, (refl, (refl, (refl, refl))))),
+            tug a.state a.tick goal dwell tug a.state a.tick goal dwell (named (granted_of is))
+            (granted_named is (meant_known file l (listed (route tug a goal dwell))), (granted l tug a goal dwell, (refl, (refl, (refl, refl))))),
       )
   some l (listed (audit light)) =
-      (_, Calls.audits (lifetimes 3) (lend file) (lend l.board) (lend light) (lend file) (lend l.board) (lend light) l.out l.words (answer_of (on_board_done l (listed (audit light))).number) (told l (listed (audit light)), (refl, (refl, refl))))
+      (_, Calls.audits (lifetimes 3) (lend file) (lend l.board) (lend light) (lend file) (lend l.board) (lend light) l.out l.words (answered_on_board l (listed (audit light))) (told l (listed (audit light)), (refl, (refl, refl))))
   some l (listed (post light)) =
       let is : Done = on_board_done l (listed (post light)) in
-      (_, Calls.posts (lifetimes 3) (lend file) (lend_mut l.board) (lend light) (lend file) (lend_mut is.lent.board) (lend light) l.out l.words (answer_of is.number) (told l (listed (post light)), (refl, (refl, refl))))
+      (_, Calls.posts (lifetimes 3) (lend file) (lend_mut l.board) (lend light) (lend file) (lend_mut is.lent.board) (lend light) l.out l.words (answered_on_board l (listed (post light))) (told l (listed (post light)), (refl, (refl, refl))))
   some l (listed (close h cell first last)) =
       let is : Done = on_board_done l (listed (close h cell first last)) in
-      (_, Calls.closes (lifetimes 2) (lend file) (lend_mut l.board) (lend file) (lend_mut is.lent.board) h cell first last h cell first last l.out l.words (answer_of is.number) (told l (listed (close h cell first last)), (refl, refl)))
+      (_, Calls.closes (lifetimes 2) (lend file) (lend_mut l.board) (lend file) (lend_mut is.lent.board) h cell first last h cell first last l.out l.words (answered_on_board l (listed (close h cell first last))) (told l (listed (close h cell first last)), (refl, refl)))
   some l (listed (withdraw h)) =
       let is : Done = on_board_done l (listed (withdraw h)) in
-      (_, Calls.withdraws (lifetimes 2) (lend file) (lend_mut l.board) (lend file) (lend_mut is.lent.board) h h l.out l.words (answer_of is.number) (told l (listed (withdraw h)), (refl, refl)))
+      (_, Calls.withdraws (lifetimes 2) (lend file) (lend_mut l.board) (lend file) (lend_mut is.lent.board) h h l.out l.words (answered_on_board l (listed (withdraw h))) (told l (listed (withdraw h)), (refl, refl)))
 
   pub can : (l : Lent) (q : PublicCall) → Calls file l q (meant file l q)
   can = allows_meant Calls exact file some
@@ -217,6 +213,6 @@ travel_demand = travel_right.demand Travels travel_exact
 pub travel_can : (d : ℕ) → Travels d (travel_meant d)
 travel_can d =
     let is = timed_back d in
-    let may : Travels d (timed_returned (timed_of (travel_meant d))) =
-    Travels.travels (lifetimes 0) d d (timed_of (travel_meant d)) (ap (λ (r : Returned). r.number) is, ap (λ (r : Returned). r.values) is) in
+    let may : Travels d (timed_returned (named (timed_of (travel_meant d)))) =
+    Travels.travels (lifetimes 0) d d (named (timed_of (travel_meant d))) (ap (λ (r : Returned). r.number) is, ap (λ (r : Returned). r.values) is) in
     subst (Travels d) is may

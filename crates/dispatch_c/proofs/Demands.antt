@@ -25,7 +25,6 @@ use Rattle.answers.proofs.DeskLaws.{board_done, board_exact, audit_exact, interv
 use Rattle.answers_c.specs.Words.{counted_word, granted_word, word_number, counted_in, granted_in}
 use Rattle.answers_c.proofs.WordLaws.{counted_back, number_back, interval_back, route_back}
 use Rattle.std.specs.Prelude.{Result}
-use Rattle.answers.specs.declared.Refusal.{Refusal}
 use Rattle.draw_pictures.specs.declared.Picture.{Picture}
 use Rattle.draw.specs.Drawn.{drawn_of}
 use Rattle.draw.specs.Demand.{DrawExact, DrawDemand}
@@ -241,7 +240,7 @@ travel_can d =
 -- ---- draw, which is lent a site file and a light for reading
 
 -- `ExportedDraw file light step frame drawn`: the contract of dispatch_draw allows what reads so
-pub data ExportedDraw : List ℕ → List ℕ → ℕ → ℕ → Result Picture Refusal → Type 0 where
+pub data ExportedDraw : List ℕ → List ℕ → ℕ → ℕ → Result Picture ℕ → Type 0 where
   draws : (κs : Lfts 2) (file light file' light' : Bor (List ℕ)) (i k i' k' : ℕ) (r : DrawnWord)
       → draw_reads.Learnt κs (file, (light, (i, (k, tt)))) r (file', (light', (i', (k', tt)))) → ExportedDraw file.now light.now i k (drawn_in r)
 

@@ -13,6 +13,7 @@ ghost use Rattle.answers_c.specs.Words.{counted_word, granted_word};
 ghost use Rattle.draw.specs.Drawn.{drawn_of};
 ghost use Rattle.draw_c.specs.Words.{drawn_word};
 
+use answers_c::numbered;
 use draw_c::DrawnWord;
 
 #[unsafe(no_mangle)]
@@ -21,7 +22,7 @@ pub extern "C" fn dispatch_open(file: &[u8], board: &mut [u8]) -> u64
     ensures board_after { board.new ≡ (meant file.now (on_board board.old) opening).lent.board }
     ensures file_unchanged { file.exit.now ≡ file.entry.now }
 {
-    answers_c::answer_word(dispatch::open(file, board))
+    answers_c::answer_word(numbered(dispatch::open(file, board)))
 }
 
 #[unsafe(no_mangle)]
@@ -31,7 +32,7 @@ pub extern "C" fn dispatch_interval(file: &[u8], board: &[u8], cell: u16, out: &
     ensures file_unchanged { file.exit.now ≡ file.entry.now }
     ensures board_unchanged { board.exit.now ≡ board.entry.now }
 {
-    answers_c::counted_word(dispatch::interval(file, board, cell, out))
+    answers_c::counted_word(numbered(dispatch::interval(file, board, cell, out)))
 }
 
 #[unsafe(no_mangle)]
@@ -52,7 +53,9 @@ pub extern "C" fn dispatch_route(
     ensures file_unchanged { file.exit.now ≡ file.entry.now }
     ensures board_unchanged { board.exit.now ≡ board.entry.now }
 {
-    answers_c::granted_word(dispatch::route(file, board, tug, start, tick, goal, dwell, out, work))
+    answers_c::granted_word(numbered(dispatch::route(
+        file, board, tug, start, tick, goal, dwell, out, work,
+    )))
 }
 
 #[unsafe(no_mangle)]
@@ -62,7 +65,7 @@ pub extern "C" fn dispatch_audit(file: &[u8], board: &[u8], light: &[u8]) -> u64
     ensures board_unchanged { board.exit.now ≡ board.entry.now }
     ensures light_unchanged { light.exit.now ≡ light.entry.now }
 {
-    answers_c::answer_word(dispatch::audit(file, board, light))
+    answers_c::answer_word(numbered(dispatch::audit(file, board, light)))
 }
 
 #[unsafe(no_mangle)]
@@ -72,7 +75,7 @@ pub extern "C" fn dispatch_post(file: &[u8], board: &mut [u8], light: &[u8]) -> 
     ensures file_unchanged { file.exit.now ≡ file.entry.now }
     ensures light_unchanged { light.exit.now ≡ light.entry.now }
 {
-    answers_c::answer_word(dispatch::post(file, board, light))
+    answers_c::answer_word(numbered(dispatch::post(file, board, light)))
 }
 
 #[unsafe(no_mangle)]
@@ -88,7 +91,7 @@ pub extern "C" fn dispatch_close(
     ensures board_after { board.new ≡ (meant file.now (on_board board.old) (listed (close holder cell first last))).lent.board }
     ensures file_unchanged { file.exit.now ≡ file.entry.now }
 {
-    answers_c::answer_word(dispatch::close(file, board, holder, cell, first, last))
+    answers_c::answer_word(numbered(dispatch::close(file, board, holder, cell, first, last)))
 }
 
 #[unsafe(no_mangle)]
@@ -97,14 +100,14 @@ pub extern "C" fn dispatch_withdraw(file: &[u8], board: &mut [u8], holder: u8) -
     ensures board_after { board.new ≡ (meant file.now (on_board board.old) (listed (withdraw holder))).lent.board }
     ensures file_unchanged { file.exit.now ≡ file.entry.now }
 {
-    answers_c::answer_word(dispatch::withdraw(file, board, holder))
+    answers_c::answer_word(numbered(dispatch::withdraw(file, board, holder)))
 }
 
 #[unsafe(no_mangle)]
 pub extern "C" fn dispatch_travel(distance: u32) -> u64
     ensures { result ≡ counted_word (timed_of (travel_meant distance)) }
 {
-    answers_c::counted_word(dispatch::travel(distance))
+    answers_c::counted_word(numbered(dispatch::travel(distance)))
 }
 
 #[unsafe(no_mangle)]
@@ -113,5 +116,5 @@ pub extern "C" fn dispatch_draw(file: &[u8], light: &[u8], step: u16, frame: u8)
     ensures file_unchanged { file.exit.now ≡ file.entry.now }
     ensures light_unchanged { light.exit.now ≡ light.entry.now }
 {
-    draw_c::drawn_word(draw::draw(file, light, step, frame))
+    draw_c::drawn_word(numbered(draw::draw(file, light, step, frame)))
 }

@@ -5,4 +5,4 @@ use Rattle.draw_c.specs.Words.{drawn_word}
 use Rattle.dispatch_c.proofs.dispatch_draw.Goals as goal
 
 pub returns-clause-value : goal.returns-clause-value
-returns-clause-value c = c.drawn_word.ensures ∙ ap drawn_word c.draw.ensures.value
+returns-clause-value c = c.drawn_word.ensures ∙ ap drawn_word (c.numbered.ensures ∙ c.draw.ensures.value)
