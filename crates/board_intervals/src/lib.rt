@@ -3,6 +3,8 @@
 
 ghost use Rattle.std.specs.Prelude.{◌≡◌, ◌+◌, ◌*◌, ◌-◌, ◌<◌, ◌≤◌, length, set};
 ghost use Rattle.meaning.specs.Limits.{horizon_limit};
+ghost use Rattle.meaning.specs.Site.{Site};
+ghost use Rattle.meaning.specs.Board.{free};
 ghost use Rattle.meaning.specs.Intervals.{begins, run_end, intervals, numbers_of};
 ghost use Rattle.meaning.specs.Calls.{over};
 ghost use Rattle.board_ticks.specs.Ticks.{frees};
@@ -12,7 +14,8 @@ use board_ticks::CellTicks;
 // Does an interval begin at the tick?
 fn begins_at(ticks: &CellTicks<'_>, t: usize) -> bool
     requires { t ≤ ticks.now.horizon }
-    ensures { result ≡ begins (frees ticks.now) t }
+    ensures value { result ≡ begins (frees ticks.now) t }
+    ensures every_site { (site : Site) → site.horizon ≡ ticks.now.horizon → site.margin ≡ ticks.now.margin → ticks.now.cell < site.cells → result ≡ begins (free site ticks.now.board.now ticks.now.cell) t }
 {
     (t == 0 || !ticks.is_free(t - 1)) && ticks.is_free(t)
 }
@@ -22,6 +25,7 @@ fn run_end(ticks: &CellTicks<'_>, first: usize) -> usize
     requires { first ≤ ticks.now.horizon }
     ensures upper_bound { result ≤ ticks.now.horizon }
     ensures value { result ≡ run_end (frees ticks.now) first (ticks.now.horizon - first) }
+    ensures every_site { (site : Site) → site.horizon ≡ ticks.now.horizon → site.margin ≡ ticks.now.margin → ticks.now.cell < site.cells → result ≡ run_end (free site ticks.now.board.now ticks.now.cell) first (ticks.now.horizon - first) }
 {
     let mut last = first;
     for t in first + 1..ticks.horizon + 1 {
@@ -49,6 +53,8 @@ pub fn write_intervals(ticks: &CellTicks<'_>, out: &mut [u16]) -> usize
     requires { ticks.now.horizon + 2 ≤ length out.old }
     ensures value { result ≡ length (intervals (frees ticks.now) ticks.now.horizon) }
     ensures out_after { out.new ≡ over (numbers_of (intervals (frees ticks.now) ticks.now.horizon)) out.old }
+    ensures every_site { (site : Site) → site.horizon ≡ ticks.now.horizon → site.margin ≡ ticks.now.margin → ticks.now.cell < site.cells → result ≡ length (intervals (free site ticks.now.board.now ticks.now.cell) ticks.now.horizon) }
+    ensures out_every_site { (site : Site) → site.horizon ≡ ticks.now.horizon → site.margin ≡ ticks.now.margin → ticks.now.cell < site.cells → out.new ≡ over (numbers_of (intervals (free site ticks.now.board.now ticks.now.cell) ticks.now.horizon)) out.old }
 {
     let mut k = 0;
     for t in 0..ticks.horizon + 1 {

@@ -218,13 +218,22 @@ module _ (site : Site) (board : List ℕ) {horizon margin c : ℕ} (same : horiz
       (λ h. let (hc, ht, nobody, none) = (tells_bytes here board c t).then h in (tells_bytes site board c t).back (inside, ht, nobody, none))
       (λ h. let (hc, ht, nobody, none) = (tells_bytes site board c t).then h in (tells_bytes here board c t).back (omega arith, ht, nobody, none))))
 
--- so what is_free, run_free and run_closable answer holds on each such site
 module _ (site : Site) (ticks : CellTicks) (same : ticks.horizon ≡ site.horizon) (spaced : ticks.margin ≡ site.margin) (inside : ticks.cell < site.cells) where
   pub frees_are : frees ticks ≡ free site ticks.board.now ticks.cell
   frees_are = plain_free site ticks.board.now same spaced inside
 
   pub closes_are : closes ticks ≡ closable site ticks.board.now ticks.cell
   closes_are = plain_closable site ticks.board.now same spaced inside
+
+-- so what comes of them, as the answers of is_free, run_free and run_closable, is the same on each such site
+module _ {A : Type 0} (ticks : CellTicks) (of_ticks : (ℕ → Bool) → A) (x : A) where
+  pub free_on_each : x ≡ of_ticks (frees ticks)
+      → (site : Site) → site.horizon ≡ ticks.horizon → site.margin ≡ ticks.margin → ticks.cell < site.cells → x ≡ of_ticks (free site ticks.board.now ticks.cell)
+  free_on_each e site same spaced inside = e ∙ ap of_ticks (frees_are site ticks (sym same) (sym spaced) inside)
+
+  pub closable_on_each : x ≡ of_ticks (closes ticks)
+      → (site : Site) → site.horizon ≡ ticks.horizon → site.margin ≡ ticks.margin → ticks.cell < site.cells → x ≡ of_ticks (closable site ticks.board.now ticks.cell)
+  closable_on_each e site same spaced inside = e ∙ ap of_ticks (closes_are site ticks (sym same) (sym spaced) inside)
 
 -- ---- a cell of a file that is ready
 

@@ -6,7 +6,8 @@ mod cell_ticks;
 ghost use Rattle.std.specs.Prelude.{◌≡◌, ◌+◌, ◌≤◌, ◌<◌, min, not, eqb, length};
 ghost use Rattle.std.specs.List.{list_all};
 ghost use Rattle.meaning.specs.Site.{Site};
-ghost use Rattle.meaning.specs.Board.{is_tug, closable, mark, run_to};
+ghost use Rattle.meaning.specs.Board.{is_tug, free, closable, mark, run_to};
+ghost use Rattle.meaning.specs.Plan.{free_from_to};
 ghost use Rattle.site.specs.Halls.{site_in, free_in};
 ghost use Rattle.board_ticks.specs.Runs.{OnBoard};
 ghost use Rattle.board_ticks.specs.Ticks.{frees, closes, from_to};
@@ -45,7 +46,8 @@ impl CellTicks<'_> {
     // the last must be 0.
     pub fn run_free(&self, first: usize, last: usize) -> bool
         requires { last ≤ self.now.horizon }
-        ensures { result ≡ from_to (frees self.now) first last }
+        ensures value { result ≡ from_to (frees self.now) first last }
+        ensures every_site { (site : Site) → site.horizon ≡ self.now.horizon → site.margin ≡ self.now.margin → self.now.cell < site.cells → result ≡ free_from_to (free site self.now.board.now) self.now.cell first last }
     {
         if last < first {
             return true;
@@ -59,7 +61,8 @@ impl CellTicks<'_> {
     // Is the cell free at the tick?
     pub fn is_free(&self, t: usize) -> bool
         requires { t ≤ self.now.horizon }
-        ensures { result ≡ frees self.now t }
+        ensures value { result ≡ frees self.now t }
+        ensures every_site { (site : Site) → site.horizon ≡ self.now.horizon → site.margin ≡ self.now.margin → self.now.cell < site.cells → result ≡ free site self.now.board.now self.now.cell t }
     {
         self.run_free(t, t)
     }
@@ -68,7 +71,8 @@ impl CellTicks<'_> {
     // margin before the first to the margin after the last a tug's.
     pub fn run_closable(&self, first: usize, last: usize) -> bool
         requires { last ≤ self.now.horizon }
-        ensures { result ≡ from_to (closes self.now) first last }
+        ensures value { result ≡ from_to (closes self.now) first last }
+        ensures every_site { (site : Site) → site.horizon ≡ self.now.horizon → site.margin ≡ self.now.margin → self.now.cell < site.cells → result ≡ free_from_to (closable site self.now.board.now) self.now.cell first last }
     {
         if last < first {
             return true;

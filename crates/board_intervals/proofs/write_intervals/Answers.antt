@@ -3,7 +3,11 @@
 use Prim.Native.Nat.{◌≤◌}
 use native.Mathlib.Omega.{arith}
 use mathlib.Core.Path.{sym, ◌∙◌}
+use lib.ListN.{length}
+use Rattle.meaning.specs.Intervals.{intervals, numbers_of}
+use Rattle.meaning.specs.Calls.{over}
 use Rattle.board_ticks.specs.Ticks.{frees}
+use Rattle.board_ticks.proofs.TickLaws.{free_on_each}
 use Rattle.board_intervals.proofs.Laws.{turn_start, turn_skips, turn_begins, turn_count, turn_out, few, room}
 use Rattle.board_intervals.proofs.write_intervals.Goals.{then-begins_at, else-begins_at}
 use Rattle.board_intervals.proofs.write_intervals.Goals as goal
@@ -14,7 +18,7 @@ loop-t-init c = turn_start _ _ _
 pub put_interval-requires-clause-k_in_bounds : goal.put_interval-requires-clause-k_in_bounds
 put_interval-requires-clause-k_in_bounds c =
     let a = c.args in
-    room (frees a.ticks.now) _ _ _ _ _ c.loop-t.invariant (omega arith) (sym c.begins_at.ensures ∙ c.if-begins_at.true) c.requires
+    room (frees a.ticks.now) _ _ _ _ _ c.loop-t.invariant (omega arith) (sym c.begins_at.ensures.value ∙ c.if-begins_at.true) c.requires
 
 pub overflow_add-k : goal.overflow_add-k
 overflow_add-k c =
@@ -28,8 +32,8 @@ loop-t-preserved c =
     let inv = c.loop-t.invariant in
     let le : c.loop-t.t ≤ a.ticks.now.horizon = omega arith in
     elim c.if-begins_at.branch [
-      | then-begins_at w ↦ rw (w.k-is, w.out-is ∙ w.put_interval.ensures) (turn_begins f _ _ _ _ _ inv _ le (sym c.begins_at.ensures ∙ w.if-begins_at.true) w.run_end-last.ensures.value)
-      | else-begins_at w ↦ rw (w.k-is, w.out-is) (turn_skips f _ _ _ _ _ inv le (sym c.begins_at.ensures ∙ w.if-begins_at.false))
+      | then-begins_at w ↦ rw (w.k-is, w.out-is ∙ w.put_interval.ensures) (turn_begins f _ _ _ _ _ inv _ le (sym c.begins_at.ensures.value ∙ w.if-begins_at.true) w.run_end-last.ensures.value)
+      | else-begins_at w ↦ rw (w.k-is, w.out-is) (turn_skips f _ _ _ _ _ inv le (sym c.begins_at.ensures.value ∙ w.if-begins_at.false))
     ]
 
 pub returns-clause-value : goal.returns-clause-value
@@ -37,3 +41,9 @@ returns-clause-value c = turn_count _ _ _ _ _ _ c.loop-t.invariant (omega arith)
 
 pub returns-clause-out_after : goal.returns-clause-out_after
 returns-clause-out_after c = turn_out _ _ _ _ _ _ c.loop-t.invariant (omega arith) c.requires
+
+pub returns-clause-every_site : goal.returns-clause-every_site
+returns-clause-every_site c = free_on_each c.args.ticks.now (λ f. length (intervals f c.args.ticks.now.horizon)) _ (returns-clause-value c)
+
+pub returns-clause-out_every_site : goal.returns-clause-out_every_site
+returns-clause-out_every_site c = free_on_each c.args.ticks.now (λ f. over (numbers_of (intervals f c.args.ticks.now.horizon)) c.args.out.now) _ (returns-clause-out_after c)

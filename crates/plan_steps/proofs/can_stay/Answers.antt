@@ -33,7 +33,7 @@ returns c =
     let f = free_in c.args.hall.now in
     let cell = c.state_cell-cell.ensures.0 in
     let last = c.after-last.ensures in
-    c.run_free.ensures
+    c.run_free.ensures.value
     ∙ (λ i. from_to (c.ticks_of.ensures.frees i) (c.number.ensures i) ((c.number-2.ensures ∙ last) i))
     ∙ ap (λ (s : ℕ). free_from_to f s c.args.a.tick.0 (c.args.a.tick.0 + c.args.n.0)) cell
     ∙ sym (stay_is (site_in c.args.hall.now) f (node_of c.args.a) c.args.n.0 _ _ last k.horizon (sym c.in_time.ensures ∙ c.if-not-in_time.false))

@@ -14,4 +14,4 @@ swept_ticks-ticks-requires c =
 pub returns : goal.returns
 returns c =
     let ticks = c.swept_ticks-ticks.ensures in
-    c.run_free.ensures ∙ (λ i. from_to (c.ticks_of.ensures.frees i) (ticks.0 i) (ticks.1 i))
+    c.run_free.ensures.value ∙ (λ i. from_to (c.ticks_of.ensures.frees i) (ticks.0 i) (ticks.1 i))

@@ -30,7 +30,7 @@ returns-then-is_set c =
     let (cell, speed) = state_shown scene c.args.s c.requires.0 in
     wait_tested (site_in scene.hall) (free_in scene.hall) c.args.reached.now c.args.s c.args.t _ _ _ (omega arith) (omega (arith, (known scene.hall.ready).horizon))
     (sym speed ∙ sym c.speed_of.ensures ∙ c.if-speed_of-ne0.false) (c.cell_of-cell.ensures ∙ cell) c.is_set.ensures c.if-is_set.true
-    (c.run_free.ensures ∙ ap (λ (f : ℕ → Bool). from_to f (c.args.t - 1) c.args.t) c.ticks_of.ensures.frees)
+    (c.run_free.ensures.value ∙ ap (λ (f : ℕ → Bool). from_to f (c.args.t - 1) c.args.t) c.ticks_of.ensures.frees)
 
 pub returns : goal.returns
 returns c = wait_unset _ _ _ _ _ _ c.is_set.ensures c.if-is_set.false

@@ -27,7 +27,7 @@ is_free-requires c =
 pub returns-then-not-is_free : goal.returns-then-not-is_free
 returns-then-not-is_free c =
     start_held c.args.hall.now c.args.trip c.requires _
-    (c.is_free.ensures ∙ ap (λ (f : ℕ → Bool). f c.args.trip.tick) (c.ticks_of.ensures.frees ∙ ap (free_in c.args.hall.now) c.state_cell-cell.ensures.0))
+    (c.is_free.ensures.value ∙ ap (λ (f : ℕ → Bool). f c.args.trip.tick) (c.ticks_of.ensures.frees ∙ ap (free_in c.args.hall.now) c.state_cell-cell.ensures.0))
     c.if-not-is_free.true _
 
 pub state_cell-dock-requires : goal.state_cell-dock-requires
@@ -71,7 +71,7 @@ invariant_of-query c =
       possible = record {
         asked = c.requires;
         start_free =
-            sym (c.is_free.ensures ∙ ap (λ (f : ℕ → Bool). f c.args.trip.tick) (c.ticks_of.ensures.frees ∙ ap (free_in hall) c.state_cell-cell.ensures.0))
+            sym (c.is_free.ensures.value ∙ ap (λ (f : ℕ → Bool). f c.args.trip.tick) (c.ticks_of.ensures.frees ∙ ap (free_in hall) c.state_cell-cell.ensures.0))
             ∙ c.if-not-is_free.false;
         ends_right = c.fill_ends.ensures (site_in hall) (free_in hall) c.args.trip.goal c.ticks_of-at_dock.ensures.horizon
             (c.ticks_of-at_dock.ensures.frees ∙ ap (free_in hall) c.state_cell-dock.ensures.0);
