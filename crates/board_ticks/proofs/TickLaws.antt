@@ -13,7 +13,7 @@ use Rattle.std.specs.List.{list_all}
 use native.Mathlib.Numerals.{add-one}
 use Rattle.meaning.specs.Limits.{header, horizon_limit}
 use Rattle.meaning.specs.Basics.{all_from}
-use Rattle.meaning.specs.Site.{Site, site_of}
+use Rattle.meaning.specs.Site.{Site}
 use Rattle.meaning.specs.Board.{is_tug, place, byte_at, closable, free, run, run_to, mark, Free, board_length, all_free}
 use Rattle.meaning.specs.Plan.{free_from_to}
 use Rattle.meaning.specs.Refusals.{Not, Tug, Within}
@@ -22,9 +22,6 @@ use Rattle.meaning.proofs.SentenceLaws.{misses, fails}
 use Rattle.meaning.proofs.BytesLaws.{tells_tug, tells_free, tells_bytes}
 use Rattle.meaning.proofs.BoardLaws.{place_in}
 use Rattle.meaning.proofs.PlanLaws.{run_free}
-use Rattle.meaning.proofs.SiteLaws.{read_well}
-use Rattle.site.specs.Ready.{Ready}
-use Rattle.site.specs.declared.Sizes.{Sizes}
 use Rattle.board_ticks.specs.Runs.{OnBoard}
 use Rattle.board_ticks.specs.Ticks.{plain, frees, closes, from_to}
 use Rattle.board_ticks.specs.declared.cell_ticks.CellTicks.{CellTicks}
@@ -208,12 +205,12 @@ module _ (site : Site) (board : List ℕ) {horizon margin c : ℕ} (same : horiz
   abbrev here : Site
   here = plain site.horizon site.margin c
 
-  plain_free : free (plain horizon margin c) board c ≡ free site board c
+  pub plain_free : free (plain horizon margin c) board c ≡ free site board c
   plain_free = rw (same, spaced) (fun_ext (λ t. same_test _ _
       (λ h. let (hc, ht, zeros) = (tells_free here board c t).then h in (tells_free site board c t).back (inside, ht, zeros))
       (λ h. let (hc, ht, zeros) = (tells_free site board c t).then h in (tells_free here board c t).back (omega arith, ht, zeros))))
 
-  plain_closable : closable (plain horizon margin c) board c ≡ closable site board c
+  pub plain_closable : closable (plain horizon margin c) board c ≡ closable site board c
   plain_closable = rw (same, spaced) (fun_ext (λ t. same_test _ _
       (λ h. let (hc, ht, nobody, none) = (tells_bytes here board c t).then h in (tells_bytes site board c t).back (inside, ht, nobody, none))
       (λ h. let (hc, ht, nobody, none) = (tells_bytes site board c t).then h in (tells_bytes here board c t).back (omega arith, ht, nobody, none))))
@@ -234,24 +231,6 @@ module _ {A : Type 0} (ticks : CellTicks) (of_ticks : (ℕ → Bool) → A) (x :
   pub closable_on_each : x ≡ of_ticks (closes ticks)
       → (site : Site) → site.horizon ≡ ticks.horizon → site.margin ≡ ticks.margin → ticks.cell < site.cells → x ≡ of_ticks (closable site ticks.board.now ticks.cell)
   closable_on_each e site same spaced inside = e ∙ ap of_ticks (closes_are site ticks (sym same) (sym spaced) inside)
-
--- ---- a cell of a file that is ready
-
-module _ {file : List ℕ} {room : ℕ} {l : Sizes} (r : Ready file room l) (c : ℕ) (inside : c < (site_of file).cells) where
-  same_horizon : l.horizon ≡ (site_of file).horizon
-  same_horizon = ap (λ (x : Sizes). x.horizon) r.sizes
-
-  same_margin : l.margin ≡ (site_of file).margin
-  same_margin = ap (λ (x : Sizes). x.margin) r.sizes
-
-  pub ready_cell : OnBoard room l.horizon c
-  ready_cell = rw same_horizon (cell_on (site_of file) room c r.board (read_well file (site_of file) r.read).horizon_range.1 inside)
-
-  pub ready_frees : (board : List ℕ) → free (plain l.horizon l.margin c) board c ≡ free (site_of file) board c
-  ready_frees board = plain_free (site_of file) board same_horizon same_margin inside
-
-  pub ready_closes : (board : List ℕ) → closable (plain l.horizon l.margin c) board c ≡ closable (site_of file) board c
-  ready_closes board = plain_closable (site_of file) board same_horizon same_margin inside
 
 -- ---- the pairs of a run are free where its ticks are
 

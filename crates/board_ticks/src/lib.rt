@@ -8,12 +8,10 @@ ghost use Rattle.std.specs.List.{list_all};
 ghost use Rattle.meaning.specs.Site.{Site};
 ghost use Rattle.meaning.specs.Board.{is_tug, free, closable, mark, run_to};
 ghost use Rattle.meaning.specs.Plan.{free_from_to};
-ghost use Rattle.site.specs.Halls.{site_in, free_in};
 ghost use Rattle.board_ticks.specs.Runs.{OnBoard};
 ghost use Rattle.board_ticks.specs.Ticks.{frees, closes, from_to};
 
 pub use cell_ticks::CellTicks;
-use site::Hall;
 
 // The tick so many ticks after t, or the last one.
 fn later(t: usize, margin: usize, horizon: usize) -> usize
@@ -82,21 +80,6 @@ impl CellTicks<'_> {
         let high = later(last, self.margin, self.horizon);
         none_held(&self.board[row + first..row + last + 1])
             && no_tug(&self.board[row + low..row + high + 1])
-    }
-}
-
-// The ticks of a cell of the hall.
-pub fn ticks_of<'a>(hall: &Hall<'a>, cell: usize) -> CellTicks<'a>
-    requires { cell < (site_in hall.now).cells }
-    ensures horizon { result.horizon ≡ (site_in hall.now).horizon }
-    ensures frees { frees result ≡ free_in hall.now cell }
-    ensures closes { closes result ≡ closable (site_in hall.now) hall.now.board.now cell }
-{
-    CellTicks {
-        board: hall.board,
-        horizon: hall.sizes.horizon,
-        margin: hall.sizes.margin,
-        cell,
     }
 }
 

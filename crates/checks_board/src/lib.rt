@@ -68,7 +68,7 @@ pub fn check_close(
     if checks::at_last_edition(hall.board) {
         return Err(Refusal::LastEdition);
     }
-    let ticks = board_ticks::ticks_of(hall, cell as usize);
+    let ticks = plan_ticks::ticks_of(hall, cell as usize);
     if !ticks.run_closable(first as usize, last as usize) {
         return Err(Refusal::Conflict);
     }

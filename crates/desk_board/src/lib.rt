@@ -28,7 +28,7 @@ pub fn interval(file: &[u8], board: &[u8], cell: u16, out: &mut [u16]) -> Result
 {
     let hall = checks::check_board(file, board)?;
     checks_board::check_interval(hall.sizes, cell, out.len())?;
-    let ticks = board_ticks::ticks_of(&hall, cell as usize);
+    let ticks = plan_ticks::ticks_of(&hall, cell as usize);
     let count = board_intervals::write_intervals(&ticks, out);
     Ok(count as u16)
 }

@@ -27,7 +27,7 @@ fn free_at(hall: &Hall<'_>, a: Node) -> bool
     ensures { result ≡ free_in hall.now (cell_of (site_in hall.now) a.state) a.tick.0 }
 {
     let cell = site_read::state_cell(&hall.file, a.state);
-    board_ticks::ticks_of(hall, cell).is_free(time::number(a.tick))
+    plan_ticks::ticks_of(hall, cell).is_free(time::number(a.tick))
 }
 
 // A plan may start at `a`: its state and its tick are the site's, and its cell is free then.

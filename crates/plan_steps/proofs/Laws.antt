@@ -24,7 +24,7 @@ use Rattle.site_read.specs.declared.Motion as ReadMotion
 use Rattle.site_read.specs.Motions.{MotionIs}
 use Rattle.site_read.proofs.Laws.{read_laid}
 use Rattle.board_ticks.specs.Runs.{OnBoard}
-use Rattle.board_ticks.proofs.TickLaws.{ready_cell}
+use Rattle.plan_ticks.proofs.ReadyLaws.{ready_cell}
 use Rattle.site.specs.Ready.{Ready}
 use Rattle.plan_steps.specs.Sweeps.{Sweeps, Swept}
 

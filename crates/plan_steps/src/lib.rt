@@ -46,7 +46,7 @@ fn sweep_free(hall: &Hall<'_>, w: Sweep, t: Tick) -> bool
     ensures { result ≡ free_from_to (free_in hall.now) w.cell (t.0 + w.first) (t.0 + w.last) }
 {
     let ticks = swept_ticks(w, t);
-    board_ticks::ticks_of(hall, w.cell).run_free(ticks.first, ticks.last)
+    plan_ticks::ticks_of(hall, w.cell).run_free(ticks.first, ticks.last)
 }
 
 // Each swept cell of the motion is free while the motion uses it, where it starts at `t`.
@@ -74,7 +74,7 @@ pub fn can_stay(hall: &Hall<'_>, a: Node, n: Span) -> bool
         return false;
     }
     let cell = site_read::state_cell(&hall.file, a.state);
-    board_ticks::ticks_of(hall, cell).run_free(time::number(a.tick), time::number(last))
+    plan_ticks::ticks_of(hall, cell).run_free(time::number(a.tick), time::number(last))
 }
 
 // A wait of `n` ticks at `a` is allowed.

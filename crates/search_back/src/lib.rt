@@ -37,7 +37,7 @@ fn wait_hit(scene: &Scene<'_>, reached: &[u64], s: usize, t: usize) -> bool
     }
     if search_ticks::is_set(reached, s, t - 1) {
         let cell = search_site::cell_of(scene.states, n, s);
-        return board_ticks::ticks_of(&scene.hall, cell).run_free(t - 1, t);
+        return plan_ticks::ticks_of(&scene.hall, cell).run_free(t - 1, t);
     }
     false
 }

@@ -215,12 +215,12 @@ pub fn search(hall: &Hall<'_>, trip: Trip, path: &mut Path) -> Option<usize>
     let sizes = hall.sizes;
     let tick = trip.tick as usize;
     let cell = site_read::state_cell(&hall.file, trip.start as usize);
-    if !board_ticks::ticks_of(hall, cell).is_free(tick) {
+    if !plan_ticks::ticks_of(hall, cell).is_free(tick) {
         return None;
     }
     let dock = site_read::state_cell(&hall.file, trip.goal as usize);
     let mut ends = [false; TICKS];
-    let at_dock = board_ticks::ticks_of(hall, dock);
+    let at_dock = plan_ticks::ticks_of(hall, dock);
     search_ends::fill_ends(&at_dock, tick, trip.dwell as usize, &mut ends);
     if !search_ends::some_end(&ends, tick, sizes.horizon) {
         return None;

@@ -4,7 +4,7 @@ use borrow.Author.Rules.{rules}
 use mathlib.Core.Path.{refl, sym, ◌∙◌}
 use Rattle.meaning.specs.Calls.{listed, close, on_board}
 use native.Mathlib.Omega.{arith}
-use Rattle.board_ticks.proofs.TickLaws.{ready_cell}
+use Rattle.plan_ticks.proofs.ReadyLaws.{ready_cell}
 use Rattle.checks.proofs.Laws.{passed_on, refused_first, later_in}
 use Rattle.checks.proofs.Passed.{hall_ready, edition_below}
 use Rattle.checks_board.proofs.Laws.{ready_horizon, named_cell, named_last, close_named, close_edition}

@@ -1,7 +1,7 @@
--- `board_ticks::ticks_of` meets its contract.
+-- `plan_ticks::ticks_of` meets its contract.
 -- Assumes nothing.
-use Rattle.board_ticks.proofs.TickLaws.{ready_cell, ready_frees, ready_closes}
-use Rattle.board_ticks.proofs.ticks_of.Goals as goal
+use Rattle.plan_ticks.proofs.ReadyLaws.{ready_cell, ready_frees, ready_closes}
+use Rattle.plan_ticks.proofs.ticks_of.Goals as goal
 
 pub invariant_of-result : goal.invariant_of-result
 invariant_of-result c = record { on_board = ready_cell c.args.hall.now.ready c.args.cell c.requires }
