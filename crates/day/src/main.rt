@@ -3,13 +3,15 @@
 // they wrote is printed.
 #![tactic(auto)]
 
-ghost use Rattle.std.specs.Prelude.{◌≤◌, ◌≡◌, length, IfSome};
+ghost use Rattle.std.specs.Prelude.{◌≤◌, ◌≡◌, length};
 ghost use Rattle.meaning.specs.Limits.{header, day_area};
 ghost use Rattle.day_calls.specs.Performed.{Areas};
+ghost use Rattle.day_results.specs.Results.{kept_light};
 
 use day_lines::LINE;
 use day_orders::PIECE;
 use std::io::Read;
+use std::ops::ControlFlow;
 use std::rt::Files;
 
 // One byte more than a site file may have, so that a longer one is seen.
@@ -20,7 +22,8 @@ const AREA: usize = 65536;
 
 const WORDS: usize = AREA / 4;
 
-// Reads what is next of the script, takes its turn and prints the line that it has. Answers the last granted light's length if the program goes on.
+// Reads what is next of the script, takes its turn and prints the line that it has. Answers whether the program goes on or ends, with the
+// last granted light's length in both cases.
 fn run_turn<R: Read>(
     rt: &impl Print,
     script: &mut R,
@@ -30,10 +33,10 @@ fn run_turn<R: Read>(
     words: &mut [u32],
     light: usize,
     first: bool,
-) -> Option<usize>
+) -> ControlFlow<usize, usize>
     requires areas { Areas (length out.old) (length words.old) light }
     requires header_in_bounds { header ≤ length board.old }
-    ensures { IfSome result (λ next. next ≤ day_area) }
+    ensures { kept_light result ≤ day_area }
 {
     let mut piece = [0u8; PIECE];
     let n = day_input::read_piece(script, &mut piece);
@@ -53,7 +56,7 @@ fn run_turn<R: Read>(
     done.next
 }
 
-// Nothing says that the input ends, so the loop has a number of turns that no run uses up.
+// Nothing says that the input ends, so the loop counts its turns, up to a number that no run uses up.
 fn run_turns<R: Read>(
     rt: &impl Print,
     script: &mut R,
@@ -68,8 +71,8 @@ fn run_turns<R: Read>(
     let mut light = 0;
     for turn in 0..u64::MAX {
         match run_turn(rt, script, file, board, out, words, light, turn == 0) {
-            Some(next) => light = next,
-            None => return,
+            ControlFlow::Continue(next) => light = next,
+            ControlFlow::Break(_) => return,
         }
     }
 }

@@ -6,6 +6,7 @@ ghost use Rattle.meaning.specs.Limits.{day_area};
 ghost use Rattle.day_results.specs.Results.{changed_result, routed_result, last_turn};
 
 use answers::{Granted, Refusal};
+use std::ops::ControlFlow;
 
 // A call's number, the arrival of a granted route, and the length of the last granted light. All three are printed or kept whatever the answer was,
 // so this is no Result.
@@ -50,16 +51,19 @@ pub fn routed(g: Result<Granted, Refusal>, last: usize) -> CallResult
     }
 }
 
-// What a turn came to: the length of its text, and that of the last granted light if the program goes on.
+// What a turn came to: the length of its text, and whether the program goes on or ends, with the length of the last granted light in both cases.
 #[derive(Clone, Copy)]
 pub struct Outcome {
     pub text: usize,
-    pub next: Option<usize>,
+    pub next: ControlFlow<usize, usize>,
 }
 
 // The program ends after this text.
-pub fn ended(text: usize) -> Outcome
-    ensures { result ≡ last_turn text }
+pub fn ended(light: usize, text: usize) -> Outcome
+    ensures { result ≡ last_turn light text }
 {
-    Outcome { text, next: None }
+    Outcome {
+        text,
+        next: ControlFlow::Break(light),
+    }
 }

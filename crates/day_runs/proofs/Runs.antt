@@ -17,7 +17,7 @@ use Rattle.meaning.specs.Laws.{Turns, ended, turned, DayTurns}
 use Rattle.meaning.proofs.Theorems.{all_laws}
 use Rattle.day_results.specs.declared.Outcome.{Outcome}
 use Rattle.day_calls.specs.Performed.{day_at}
-use Rattle.std.specs.Prelude.{Ok, Err, Some, None}
+use Rattle.std.proofs.Common.{Ok, Err, Continue, Break}
 use Rattle.day_opening.specs.Opens.{Opens, Refuses}
 use Rattle.day_turns.specs.Turns.{day_if, Turned}
 use Rattle.day_opening.proofs.start.Reads as start_reads
@@ -28,17 +28,17 @@ use Rattle.day_turns.proofs.turn.Reads as turn_reads
 pub data TurnsPrint : List ℕ → Bool → List ℕ → Day → List ℕ → Type 0 where
   last : (κs : Lfts 6) (file : Bor (List ℕ)) (board out words : MutBor (List ℕ)) (bytes : Bor (List ℕ)) (line : MutBor (List ℕ))
       (file' : Bor (List ℕ)) (board' out' words' : MutBor (List ℕ)) (bytes' : Bor (List ℕ)) (line' : MutBor (List ℕ)) (light light' : ℕ) (first first' : Bool)
-      (rest : List ℕ) (r : Outcome)
+      (rest : List ℕ) (r : Outcome) (granted : ℕ)
       → bytes.now ≡ piece rest
       → turn_reads.Learnt κs (file, (board, (out, (words, (light, (first, (bytes, (line, tt)))))))) r (file', (board', (out', (words', (light', (first', (bytes', (line', tt))))))))
-      → r.next ≡ None
+      → r.next ≡ Break granted
       → TurnsPrint file.now first rest (day_at board.now out.now light) (take r.text line'.now)
   next : (κs : Lfts 6) (file : Bor (List ℕ)) (board out words : MutBor (List ℕ)) (bytes : Bor (List ℕ)) (line : MutBor (List ℕ))
       (file' : Bor (List ℕ)) (board' out' words' : MutBor (List ℕ)) (bytes' : Bor (List ℕ)) (line' : MutBor (List ℕ)) (light light' : ℕ) (first first' : Bool)
       (rest text : List ℕ) (r : Outcome) (granted : ℕ)
       → bytes.now ≡ piece rest
       → turn_reads.Learnt κs (file, (board, (out, (words, (light, (first, (bytes, (line, tt)))))))) r (file', (board', (out', (words', (light', (first', (bytes', (line', tt))))))))
-      → r.next ≡ Some granted
+      → r.next ≡ Continue granted
       → TurnsPrint file.now false (drop (length (piece rest)) rest) (day_at board'.now out'.now granted) text
       → TurnsPrint file.now first rest (day_at board.now out.now light) (take r.text line'.now ++ text)
 
@@ -68,7 +68,7 @@ module _ {file : List ℕ} {first : Bool} {d : Day} {after : Option Day} {r : Ou
       (turned (subst (λ (day : Option Day). Turns file false (drop (length (piece rest)) rest) day text) (sym (turn_day o e)) more))
 
 turns_print : {file : List ℕ} {first : Bool} {rest text : List ℕ} {d : Day} → TurnsPrint file first rest d text → Turns file first rest (some d) text
-turns_print (TurnsPrint.last κs file board out words bytes line file' board' out' words' bytes' line' light light' first first' rest r read p e) =
+turns_print (TurnsPrint.last κs file board out words bytes line file' board' out' words' bytes' line' light light' first first' rest r granted read p e) =
     subst (Turns file.now first rest (some (day_at board.now out.now light))) (append-nil (take r.text line'.now)) (then_turns rest read p none [] (ap (day_if board'.now out'.now) e) ended)
 turns_print (TurnsPrint.next κs file board out words bytes line file' board' out' words' bytes' line' light light' first first' rest text r granted read p e more) =
     then_turns rest read p (some (day_at board'.now out'.now granted)) text (ap (day_if board'.now out'.now) e) (turns_print more)

@@ -20,7 +20,7 @@ use Rattle.day_orders.proofs.Laws.{entry_call_lem, not_end}
 use Rattle.day_results.specs.declared.CallResult.{CallResult}
 use Rattle.day_results.specs.declared.Outcome.{Outcome}
 use Rattle.day_results.specs.Results.{last_turn}
-use Rattle.std.specs.Prelude.{Some}
+use Rattle.std.proofs.Common.{Continue}
 use Rattle.day_calls.specs.Performed.{Performed}
 use Rattle.day_turns.specs.Turns.{LineWritten, day_if, Turned}
 
@@ -28,8 +28,9 @@ use Rattle.day_turns.specs.Turns.{LineWritten, day_if, Turned}
 pub line_written : (file : List ℕ) (d after : Day) (c : C.Call) (r : CallResult) (e text : ℕ) (line : List ℕ)
     → Performed file d c r after → r.light ≤ day_area → e ≡ edition after.board
     → IsPrefixLen text line → take text line ≡ text_of (record { number = r.number; edition = e; arrival = r.arrival })
-    → LineWritten file d c (record { text = text; next = Some r.light }) line (some after)
+    → LineWritten file d c (record { text = text; next = Continue r.light }) line (some after)
 line_written file d after c r e text line p few same n w = record {
+  going = refl;
   few = few;
   counted = n;
   text = w ∙ ap text_of (λ i. record { number = p.number i; edition = (same ∙ ap (λ (k : Day). edition k.board) p.day) i; arrival = p.arrival i });
@@ -57,27 +58,27 @@ module _ (file : List ℕ) (first : Bool) (d : Day) (line : List ℕ) where
       → (take text line ≡ texts (line_then file d o (λ (d' : Day). []))) × (none ≡ day_by file d o)
   by_none o text e w = rw e (bad_text text w, refl)
 
-  bad_turn : (fs : Fields) (text : ℕ) → Bad ≡ entry_of fs → IsPrefixLen text line → take text line ≡ text_of bad_line
-      → Turned file first fs d (last_turn text) line none
-  bad_turn end text e n w = absurd (let y : ◌≡◌ {A = ℕ} 0 1 = cc in omega arith)
-  bad_turn cut text e n w = record { few = tt; counted = n; text = bad_text text w; day = refl }
-  bad_turn (next f fs) text e n w =
+  bad_turn : (fs : Fields) (light text : ℕ) → light ≤ day_area → Bad ≡ entry_of fs → IsPrefixLen text line → take text line ≡ text_of bad_line
+      → Turned file first fs d (last_turn light text) line none
+  bad_turn end light text few e n w = absurd (let y : ◌≡◌ {A = ℕ} 0 1 = cc in omega arith)
+  bad_turn cut light text few e n w = record { few = few; counted = n; text = bad_text text w; day = refl }
+  bad_turn (next f fs) light text few e n w =
       let (said, day) = by_none (call_of d.light f) text (sym (entry_call_lem d.light f) ∙ sym (ap (entry_call d.light) e)) w in
-      record { few = tt; counted = n; text = said; day = day }
+      record { few = few; counted = n; text = said; day = day }
 
   -- nothing more
-  end_turn : (fs : Fields) (text : ℕ) → End ≡ entry_of fs → IsPrefixLen text line → take text line ≡ texts (end_lines first)
-      → Turned file first fs d (last_turn text) line none
-  end_turn end text e n w = record { few = tt; counted = n; text = w; day = refl }
-  end_turn cut text e n w = absurd (let y : ◌≡◌ {A = ℕ} 0 1 = cc in omega arith)
-  end_turn (next f fs) text e n w = absurd (not_end f e)
+  end_turn : (fs : Fields) (light text : ℕ) → light ≤ day_area → End ≡ entry_of fs → IsPrefixLen text line → take text line ≡ texts (end_lines first)
+      → Turned file first fs d (last_turn light text) line none
+  end_turn end light text few e n w = record { few = few; counted = n; text = w; day = refl }
+  end_turn cut light text few e n w = absurd (let y : ◌≡◌ {A = ℕ} 0 1 = cc in omega arith)
+  end_turn (next f fs) light text few e n w = absurd (not_end f e)
 
   -- the same of the outcome that the code returns
-  module _ (fs : Fields) (board out : List ℕ) (r : Outcome) where
-    pub turned_bad : (text : ℕ) → r ≡ last_turn text → Bad ≡ entry_of fs → IsPrefixLen text line → take text line ≡ text_of bad_line
+  module _ (fs : Fields) (board out : List ℕ) (light : ℕ) (few : light ≤ day_area) (r : Outcome) where
+    pub turned_bad : (text : ℕ) → r ≡ last_turn light text → Bad ≡ entry_of fs → IsPrefixLen text line → take text line ≡ text_of bad_line
         → Turned file first fs d r line (day_if board out r.next)
-    turned_bad text t e n w = rw t (bad_turn fs text e n w)
+    turned_bad text t e n w = rw t (bad_turn fs light text few e n w)
 
-    pub turned_end : (text : ℕ) → r ≡ last_turn text → End ≡ entry_of fs → IsPrefixLen text line → take text line ≡ texts (end_lines first)
+    pub turned_end : (text : ℕ) → r ≡ last_turn light text → End ≡ entry_of fs → IsPrefixLen text line → take text line ≡ texts (end_lines first)
         → Turned file first fs d r line (day_if board out r.next)
-    turned_end text t e n w = rw t (end_turn fs text e n w)
+    turned_end text t e n w = rw t (end_turn fs light text few e n w)

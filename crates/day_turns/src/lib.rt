@@ -11,6 +11,7 @@ ghost use Rattle.day_turns.specs.Turns.{day_if, LineWritten, Turned};
 use day_lines::LINE;
 use day_orders::{Entry, Order};
 use day_results::Outcome;
+use std::ops::ControlFlow;
 
 // Performs a call and writes its line, with the edition that the board has after it.
 fn perform_line(
@@ -36,7 +37,7 @@ fn perform_line(
     );
     Outcome {
         text,
-        next: Some(done.light),
+        next: ControlFlow::Continue(done.light),
     }
 }
 
@@ -58,7 +59,7 @@ pub fn turn(
 {
     match day_orders::read_entry(bytes) {
         Entry::Call(o) => perform_line(file, board, out, words, light, o, line),
-        Entry::Bad => day_results::ended(day_lines::write_line(line, 99, 0, 0)),
-        Entry::End => day_results::ended(day_lines::write_end(line, first)),
+        Entry::Bad => day_results::ended(light, day_lines::write_line(line, 99, 0, 0)),
+        Entry::End => day_results::ended(light, day_lines::write_end(line, first)),
     }
 }

@@ -13,11 +13,11 @@ returns-in-Call c =
 pub returns-in-Bad : goal.returns-in-Bad
 returns-in-Bad c =
     let a = c.args in
-    turned_bad a.file.now a.first (day_at a.board.now a.out.now a.light) _ (fields a.bytes.now) _ _ _ _ c.ended.ensures
+    turned_bad a.file.now a.first (day_at a.board.now a.out.now a.light) _ (fields a.bytes.now) _ _ a.light c.requires.areas.light_inside _ _ c.ended.ensures
     c.in-Bad.ensures c.write_line.ensures.prefix_len c.write_line.ensures.line_after
 
 pub returns-in-End : goal.returns-in-End
 returns-in-End c =
     let a = c.args in
-    turned_end a.file.now a.first (day_at a.board.now a.out.now a.light) _ (fields a.bytes.now) _ _ _ _ c.ended-in-End.ensures
+    turned_end a.file.now a.first (day_at a.board.now a.out.now a.light) _ (fields a.bytes.now) _ _ a.light c.requires.areas.light_inside _ _ c.ended-in-End.ensures
     c.in-End.ensures c.write_end.ensures.prefix_len c.write_end.ensures.line_after
