@@ -7,6 +7,9 @@ use mathlib.Core.Bool.{Bool, true, false, true≢false}
 use native.Mathlib.Omega.{arith}
 use lib.ListN.{length, get_or, drop, length-drop}
 use lib.Seq.{drop-drop, get_or-drop, get_or-take, length-take-le}
+use mathlib.Core.Logic.{inl, inr}
+use denote.Enum.Declared.{tag_of}
+use types.Run.{OneOf}
 use lib.Dec.{leb}
 use borrow.Author.Tests.{leb-true, leb-false}
 use Rattle.meaning.specs.Basics.{u16_at, all}
@@ -17,6 +20,7 @@ use Rattle.fields.specs.Items.{first_item, item_of}
 use Rattle.fields.specs.declared.Header.{Header}
 use Rattle.fields.specs.declared.Item.{Item}
 use Rattle.fields.specs.declared.Item.TheVariants.{Cut, End}
+use Rattle.fields.specs.contracts.Item.{the_type}
 
 -- ---- by place
 u16_drop : (file : List ℕ) (at i : ℕ) → u16_at (drop at file) i ≡ u16_at file (at + i)
@@ -181,6 +185,13 @@ module _ (s : List ℕ) (at : ℕ) where
       (λ r. let i = item_field s at _ refl r in let z : ◌≡◌ {A = ℕ} 0 1 = cc in absurd (omega arith))
 
   -- where the answer is no field, none is listed from there on
+  pub no_field : (k : Item) → OneOf (1 ∷ 2 ∷ []) (tag_of the_type k) → k ≡ item_of s at → listed (fields_at s at) ≡ []
+  unfolding listed
+  no_field (Item.Field h) (inl met) e = absurd (omega arith)
+  no_field (Item.Field h) (inr met) e = absurd (omega arith)
+  no_field Cut met e = ap listed (is_cut e)
+  no_field End met e = ap listed (at_end s at (is_end e))
+
   pub not_field : (k : Item) → ((h : Header) → k ≡ Item.Field h → ⊥) → k ≡ item_of s at → listed (fields_at s at) ≡ []
   unfolding listed
   not_field (Item.Field h) met e = absurd (met h refl)
