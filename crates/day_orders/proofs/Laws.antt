@@ -77,7 +77,7 @@ module _ (s : List ℕ) (h : Header) (w : Whole s 0 h) where
   f = field_at s 0
 
   -- the test of tag and length is the field's
-  told : (tag size : ℕ) → is_field f tag size ≡ (eqb h.tag tag && eqb h.len size)
+  pub told : (tag size : ℕ) → is_field f tag size ≡ (eqb h.tag tag && eqb h.len size)
   unfolding field_at
   told tag size = ap₂ (λ (m n : ℕ). eqb m tag && eqb n size) (sym w.tag) (whole_length s 0 h w)
 

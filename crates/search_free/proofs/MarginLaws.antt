@@ -28,7 +28,7 @@ use Rattle.search_free.specs.Frees.{free_to, held_to, held_before, spaced_to}
 
 -- ---- the bits of the ticks that there are
 
-present_fits : (n : ℕ) → n < 64 → 1 * 2 ^ n % 2 ^ 64 ≡ 2 ^ n
+pub present_fits : (n : ℕ) → n < 64 → 1 * 2 ^ n % 2 ^ 64 ≡ 2 ^ n
 present_fits n h = let less = pow_mono {i = n} {j = 63} (omega arith) in omega arith
 
 pub present_some : (width tick left : ℕ) → left ≡ width - tick → left < 64 → (i : ℕ) → i < 64 → bit (1 * 2 ^ left % 2 ^ 64 - 1) i ≡ ltb (tick + i) width

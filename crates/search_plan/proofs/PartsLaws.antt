@@ -72,7 +72,7 @@ module _ (hall : Hall) where
   pub same_horizon : site.horizon ≡ l.horizon
   same_horizon = sym (ap (λ (k : Sizes). k.horizon) hall.ready.sizes)
 
-  same_cells : site.cells ≡ l.cells
+  pub same_cells : site.cells ≡ l.cells
   same_cells = sym (ap (λ (k : Sizes). k.cells) hall.ready.sizes)
 
   -- the numbers that keep each index of the search in range
