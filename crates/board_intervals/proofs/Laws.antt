@@ -7,32 +7,22 @@ use native.Mathlib.Nat.{zero-add}
 use mathlib.Core.Path.{◌≡◌, refl, sym, ap, ap₂, ◌∙◌}
 use mathlib.Core.Bool.{Bool, true, false, and-true, and-false}
 use mathlib.Core.List.{List, [], ◌∷◌, ◌++◌}
+use lib.Dec.{ltb, eqb}
+use borrow.Author.Tests.{ltb-true, ltb-false, eqb-true, eqb-false}
 use lib.ListN.{length, set, drop, length-set}
 use lib.Seq.{sets, sets-eq}
-use Rattle.meaning.specs.Intervals.{Interval, begins, run_end, intervals_from, intervals, numbers_of}
+use Rattle.meaning.specs.Intervals.{Interval, free_before, begins, run_end, intervals_from, intervals, numbers_of}
 use Rattle.meaning.specs.Calls.{over}
+use Rattle.meaning.proofs.BasicsLaws.{decide}
 use Rattle.meaning.proofs.IntervalLaws.{intervals_right}
 
 -- ---- where an interval begins
 
 module _ (p : ℕ → Bool) where
-  pub begins_first : (t : ℕ) → t ≡ 0 → p t ≡ begins p t
+  -- none begins after a free tick
+  none_after : (t : ℕ) → p t ≡ true → begins p (suc t) ≡ false
   unfolding begins
-  begins_first t e = rw e (sym (and-true (p 0)))
-
-  pub begins_not : (t : ℕ) → (t ≡ 0 → ⊥) → p (t - 1) ≡ true → begins p t ≡ false
-  unfolding begins
-  begins_not zero pos e = absurd (pos refl)
-  begins_not (suc t) pos e =
-      let before : p t ≡ true = ap p (omega arith) ∙ e in
-      simp before (and-false (p (suc t)))
-
-  pub begins_free : (t : ℕ) → (t ≡ 0 → ⊥) → p (t - 1) ≡ false → p t ≡ begins p t
-  unfolding begins
-  begins_free zero pos e = absurd (pos refl)
-  begins_free (suc t) pos e =
-      let before : p t ≡ false = ap p (omega arith) ∙ e in
-      sym (simp before (and-true (p (suc t))))
+  none_after t e = simp e (and-false (p (suc t)))
 
   -- ---- where the run of free ticks ends
 
@@ -54,6 +44,78 @@ module _ (p : ℕ → Bool) where
     pub end_last : horizon ≤ t → run_end p t (horizon - t) ≡ t
     unfolding run_end
     end_last le = let none : horizon - t ≡ 0 = omega arith in ap (run_end p t) none
+
+  -- ---- what a run tells of the ticks behind its first
+
+  pub end_late : (n t : ℕ) → t ≤ run_end p t n
+  unfolding run_end
+  end_late zero t = omega arith
+  end_late (suc n) t = decide (p (suc t)) (λ e. simp e (let h = end_late n (suc t) in omega arith)) (λ e. simp e (omega arith))
+
+  -- no interval begins at one of them, nor at the tick that ends it
+  none_inside : (n t : ℕ) → p t ≡ true → (u : ℕ) → t < u → u ≤ suc (run_end p t n) → begins p u ≡ false
+  unfolding run_end
+  none_inside zero t e u lo hi = let same : u ≡ suc t = omega arith in rw same (none_after t e)
+  none_inside (suc n) t e u lo hi =
+      decide (eqb u (suc t))
+      (λ g. let same : u ≡ suc t = eqb-true u (suc t) g in rw same (none_after t e))
+      (λ g.
+      let other : u ≡ suc t → ⊥ = eqb-false u (suc t) g in
+      decide (p (suc t))
+      (λ f. let same : run_end p t (suc n) ≡ run_end p (suc t) n = simp f refl in none_inside n (suc t) f u (omega arith) (omega arith))
+      (λ f. let same : run_end p t (suc n) ≡ t = simp f refl in absurd (omega arith)))
+
+  -- and that one is not free, but for the horizon
+  end_held : (n t u : ℕ) → u ≡ suc (run_end p t n) → u ≤ t + n → p u ≡ false
+  unfolding run_end
+  end_held zero t u e le = absurd (omega arith)
+  end_held (suc n) t u e le =
+      decide (p (suc t))
+      (λ f. end_held n (suc t) u (e ∙ simp f refl) (omega arith))
+      (λ f. let same : u ≡ suc t = e ∙ simp f refl in rw same f)
+
+  -- `next` is the first tick that no run before t tells of
+  pub record Told (horizon t next : ℕ) : Type 0 where
+    pub none : (u : ℕ) → t ≤ u → u < next → begins p u ≡ false
+    pub before : next ≤ t → free_before p t ≡ false
+    pub held : (u : ℕ) → suc u ≡ next → u ≤ horizon → p u ≡ false
+
+  pub told_start : (horizon : ℕ) → Told horizon 0 0
+  told_start horizon = record {
+    none = λ u lo hi. absurd (omega arith);
+    before = λ le. refl;
+    held = λ u e le. absurd (omega arith);
+  }
+
+  module _ (horizon t next : ℕ) (now : Told horizon t next) (le : t ≤ horizon) where
+    -- at a tick of which nothing is told an interval begins if it is free
+    pub begins_free : next ≤ t → p t ≡ begins p t
+    unfolding begins
+    begins_free first = sym (simp (now.before first) (and-true (p t)))
+
+    -- at another none begins
+    pub begins_told : t < next → begins p t ≡ false
+    begins_told = now.none t (omega arith)
+
+    -- at the next tick, if no run is added: where nothing was told of this one, it is not free
+    pub told_on : (next ≤ t → p t ≡ false) → Told horizon (t + 1) next
+    told_on here = record {
+      none = λ u lo hi. now.none u (omega arith) hi;
+      before = λ first. ap (free_before p) (add-one t) ∙ decide (ltb t next)
+          (λ g. let lt = ltb-true t next g in now.held t (omega arith) le)
+          (λ g. here (ltb-false t next g));
+      held = now.held;
+    }
+
+    -- and behind a run that begins here
+    pub told_run : p t ≡ true → (last : ℕ) → last ≡ run_end p t (horizon - t) → Told horizon (t + 1) (last + 2)
+    told_run free last e =
+        let late = end_late (horizon - t) t in
+        record {
+          none = λ u lo hi. none_inside (horizon - t) t free u (omega arith) (rw (← e) (omega arith));
+          before = λ first. absurd (omega arith);
+          held = λ u s most. end_held (horizon - t) t u (let same : u ≡ suc last = omega arith in same ∙ ap suc e) (omega arith);
+        }
 
   -- ---- what is left to write from a tick on
 

@@ -5,20 +5,11 @@ ghost use Rattle.std.specs.Prelude.{◌≡◌, ◌+◌, ◌*◌, ◌-◌, ◌<�
 ghost use Rattle.meaning.specs.Limits.{horizon_limit};
 ghost use Rattle.meaning.specs.Site.{Site};
 ghost use Rattle.meaning.specs.Board.{free};
-ghost use Rattle.meaning.specs.Intervals.{begins, run_end, intervals, numbers_of};
+ghost use Rattle.meaning.specs.Intervals.{run_end, intervals, numbers_of};
 ghost use Rattle.meaning.specs.Calls.{over};
 ghost use Rattle.board_ticks.specs.Ticks.{frees};
 
 use board_ticks::CellTicks;
-
-// Does an interval begin at the tick?
-fn begins_at(ticks: &CellTicks<'_>, t: usize) -> bool
-    requires { t ≤ ticks.now.horizon }
-    ensures value { result ≡ begins (frees ticks.now) t }
-    ensures every_site { (site : Site) → site.horizon ≡ ticks.now.horizon → site.margin ≡ ticks.now.margin → ticks.now.cell < site.cells → result ≡ begins (free site ticks.now.board.now ticks.now.cell) t }
-{
-    (t == 0 || !ticks.is_free(t - 1)) && ticks.is_free(t)
-}
 
 // The last tick of the run of free ticks from the tick first on.
 fn run_end(ticks: &CellTicks<'_>, first: usize) -> usize
@@ -57,11 +48,14 @@ pub fn write_intervals(ticks: &CellTicks<'_>, out: &mut [u16]) -> usize
     ensures out_every_site { (site : Site) → site.horizon ≡ ticks.now.horizon → site.margin ≡ ticks.now.margin → ticks.now.cell < site.cells → out.new ≡ over (numbers_of (intervals (free site ticks.now.board.now ticks.now.cell) ticks.now.horizon)) out.old }
 {
     let mut k = 0;
+    // The first tick that no run has told of: a run tells of its own ticks and of the one that ends it. So each tick is looked at once.
+    let mut next = 0;
     for t in 0..ticks.horizon + 1 {
-        if begins_at(ticks, t) {
+        if next <= t && ticks.is_free(t) {
             let last = run_end(ticks, t);
             put_interval(out, k, t, last);
             k += 1;
+            next = last + 2;
         }
     }
     k
