@@ -1,12 +1,20 @@
 -- `desk_board::interval` meets its contract.
 -- Assumes nothing.
-use mathlib.Core.Path.{refl, ◌∙◌}
-use mathlib.Core.List.{[]}
+use native.Mathlib.Omega.{arith}
+use Prim.Native.Nat.{ℕ, ◌≤◌, ◌<◌}
+use mathlib.Core.Path.{◌≡◌, refl, ap, ◌∙◌}
+use mathlib.Core.Bool.{Bool}
+use lib.ListN.{length}
+use Rattle.meaning.specs.Intervals.{intervals}
+use mathlib.Core.List.{[], ◌∷◌}
 use Rattle.meaning.specs.Calls.{interval, lends}
+use Rattle.site.specs.Halls.{free_in}
 use Rattle.checks.proofs.Laws.{passed_on, refused_first}
 use Rattle.checks.proofs.Passed.{ready_short}
+use Rattle.checks_board.proofs.Laws.{ready_horizon}
+use Rattle.board_intervals.proofs.Laws.{fits}
 use Rattle.answers.proofs.Laws.{refused_number, refused_values, refused_out}
-use Rattle.desk_board.proofs.IntervalLaws.{no_count, interval_refused, interval_accepted, cell_in, interval_fits, interval_few, interval_counted, interval_left}
+use Rattle.desk_board.proofs.IntervalLaws.{no_count, interval_refused, interval_accepted, cell_in, interval_fits, interval_counted, interval_left}
 use Rattle.desk_board.proofs.interval.Goals as goal
 
 pub returns-in_err-hall : goal.returns-in_err-hall
@@ -37,21 +45,22 @@ returns-in_err-check_interval c =
 pub ticks_of-ticks-requires : goal.ticks_of-ticks-requires
 ticks_of-ticks-requires c =
     let made = c.in_ok-hall.ensures in
-    cell_in _ _ c.args.out.now _ c.in_ok-hall.hall made.hall made.number c.in_ok-check_interval.ensures
+    omega (arith, cell_in _ _ c.args.out.now _ c.in_ok-hall.hall made.hall made.number c.in_ok-check_interval.ensures)
 
 pub write_intervals-count-requires : goal.write_intervals-count-requires
 write_intervals-count-requires c =
     let made = c.in_ok-hall.ensures in
-    let ticks = c.ticks_of-ticks.ensures in
-    interval_fits _ _ c.args.out.now _ c.in_ok-hall.hall made.hall made.number c.in_ok-check_interval.ensures _ _ ticks.frees ticks.horizon
+    interval_fits _ _ c.args.out.now _ c.in_ok-hall.hall made.hall made.number c.in_ok-check_interval.ensures _ _ refl c.ticks_of-ticks.ensures.horizon
+
+-- few enough for 16 bits, whatever is free
+few : (good : ℕ → Bool) (h n : ℕ) → n ≡ length (intervals good h) → h ≤ 1000 → n < 65536
+few good h n counted short = omega (arith, fits good h)
 
 pub overflow_cast-result : goal.overflow_cast-result
 overflow_cast-result c =
-    let made = c.in_ok-hall.ensures in
-    let ticks = c.ticks_of-ticks.ensures in
+    let ready = c.in_ok-hall.hall.ready in
     record {
-      fits = interval_few _ _ c.args.out.now _ c.in_ok-hall.hall made.hall made.number c.in_ok-check_interval.ensures _ _ ticks.frees ticks.horizon
-          _ c.write_intervals-count.ensures.value;
+      fits = few _ _ _ c.write_intervals-count.ensures.value (omega (arith, ready_short ready, ready_horizon ready, c.ticks_of-ticks.ensures.horizon));
     }
 
 pub returns : goal.returns
@@ -60,10 +69,11 @@ returns c =
     let ticks = c.ticks_of-ticks.ensures in
     record {
       number = interval_accepted _ _ c.args.out.now _ c.in_ok-hall.hall made.hall made.number c.in_ok-check_interval.ensures;
-      values = interval_counted _ _ c.args.out.now _ c.in_ok-hall.hall made.hall made.number c.in_ok-check_interval.ensures _ _ ticks.frees ticks.horizon
-          _ c.write_intervals-count.ensures.value;
-      out_after = interval_left _ _ _ _ c.in_ok-hall.hall made.hall made.number c.in_ok-check_interval.ensures _ _ ticks.frees ticks.horizon
-          _ c.write_intervals-count.ensures.out_after;
+      values = ap (λ (n : ℕ). n ∷ []) (omega arith)
+          ∙ interval_counted _ _ c.args.out.now _ c.in_ok-hall.hall made.hall made.number c.in_ok-check_interval.ensures
+          _ _ (ticks.frees ∙ ap (free_in c.in_ok-hall.hall) (omega arith)) ticks.horizon _ c.write_intervals-count.ensures.value;
+      out_after = interval_left _ _ _ _ c.in_ok-hall.hall made.hall made.number c.in_ok-check_interval.ensures
+          _ _ (ticks.frees ∙ ap (free_in c.in_ok-hall.hall) (omega arith)) ticks.horizon _ c.write_intervals-count.ensures.out_after;
       file_unchanged = refl;
       board_unchanged = refl;
     }
