@@ -1,13 +1,16 @@
 -- Laws of route: what its work asks, and what is meant of a route that was granted, that found no plan, and that was refused before.
 -- Assumes nothing.
-use Prim.Native.Nat.{ℕ, ◌≤◌}
+use Prim.Native.Nat.{ℕ, ◌+◌, ◌-◌, ◌≤◌, ◌<◌}
 use native.Mathlib.Omega.{arith}
 use mathlib.Core.Path.{◌≡◌, refl, sym, ap, ◌∙◌}
 use mathlib.Core.Option.{none, some}
 use mathlib.Core.Option as Math
-use mathlib.Core.List.{List, [], ◌++◌}
-use lib.ListN.{length, take, drop, replicate, length-replicate}
-use lib.Seq.{length-take-le}
+use mathlib.Core.List.{List, []}
+use lib.ListN.{length, replicate, drop, get_or, length-replicate}
+use Rattle.std.proofs.Common.{length-drop, length-append}
+use Rattle.std.proofs.lemmas.Bool.{cases_lt}
+use mathlib.Core.Logic.{◌⊎◌, inl, inr}
+use Rattle.std.proofs.lemmas.List.{ext_get_or, get_or-replicate, get_or-drop, get_or_append_left, get_or-append_right}
 use Rattle.std.specs.Prelude.{ok_or, Option, Result, Ok, Err, IsErr, IsErrAnd}
 use Rattle.meaning.specs.Answers.{lowest}
 use Rattle.meaning.specs.Site.{Site, site_of}
@@ -38,6 +41,40 @@ pub record Leaves (d : Done) (r : Result Granted Refusal) (out words : List ℕ)
   pub values : granted_values r ≡ d.values
   pub out_after : out ≡ d.lent.out
   pub work_after : words ≡ d.lent.words
+
+-- the first n words are zero, and no other has changed
+pub record Cleared (n : ℕ) (old new : List ℕ) : Type 0 where
+  pub sized : length new ≡ length old
+  pub zeros : (i : ℕ) → i < n → get_or new i 0 ≡ 0
+  pub kept : (i : ℕ) → n ≤ i → get_or new i 0 ≡ get_or old i 0
+
+pub cleared_over : (n : ℕ) (old new : List ℕ) → n ≤ length old → Cleared n old new → new ≡ over (replicate n 0) old
+cleared_over n old new fits h = ext_get_or 0 new (over (replicate n 0) old) (h.sized ∙ sym size) at_each
+  where
+    zs : List ℕ
+    zs = replicate n 0
+
+    long : length zs ≡ n
+    long = length-replicate {A = ℕ} n 0
+
+    size : length (over zs old) ≡ length old
+    size = length-append zs (drop (length zs) old) ∙ omega (arith, length-drop (length zs) old, long)
+
+    below : (i : ℕ) → i < n → get_or new i 0 ≡ get_or (over zs old) i 0
+    below i lt = h.zeros i lt ∙ sym (get_or_append_left zs (drop (length zs) old) 0 i (omega (arith, long)) ∙ get_or-replicate n i 0 0 lt)
+
+    above : (i : ℕ) → n ≤ i → get_or new i 0 ≡ get_or (over zs old) i 0
+    above i le =
+        let place : length zs + (i - n) ≡ i = omega (arith, long) in
+        h.kept i le ∙ sym (get_or-append_right zs (drop (length zs) old) n i 0 long le ∙ get_or-drop (length zs) old (i - n) 0
+        ∙ ap (λ (k : ℕ). get_or old k 0) place)
+
+    by_place : (i : ℕ) → (i < n) ⊎ (n ≤ i) → get_or new i 0 ≡ get_or (over zs old) i 0
+    by_place i (inl lt) = below i lt
+    by_place i (inr le) = above i le
+
+    at_each : (i : ℕ) → i < length new → get_or new i 0 ≡ get_or (over zs old) i 0
+    at_each i lt = by_place i (cases_lt i n)
 
 module _ (file board out words : List ℕ) (tug start tick goal dwell : ℕ) where
   abbrev lent : Lent
@@ -97,24 +134,16 @@ module _ (file board out words : List ℕ) (tug start tick goal dwell : ℕ) whe
       abbrev light : Light
       light = light_on hall tug trip
 
+      -- the words that the search needs, zero, before the rest
+      abbrev zeroed : List ℕ
+      zeroed = over (replicate (words_needed (site_of file)) 0) words
+
       -- what the search answers: a plan, or that none exists
-      pub route_found : (r : Option Granted) (result : Result Granted Refusal) → result ≡ ok_or r NoPlan
-          → r ≡ found_of (route_on hall trip) light
-          → (left : List ℕ) → left ≡ out_of (route_on hall trip) light out
-          → (n : ℕ) → Needs n
-          → (new : List ℕ) → new ≡ replicate (length (take n words)) 0 → Leaves is result left (new ++ drop n words)
+      pub route_found : (r : Option Granted) → r ≡ found_of (route_on hall trip) light
+          → (left : List ℕ) → left ≡ out_of (route_on hall trip) light out → Leaves is (ok_or r NoPlan) left zeroed
       unfolding found_of out_of accepted_done
-      route_found r result turned finds left writes n needs new clears = by_route (route_on hall trip) refl
+      route_found r finds left writes = by_route (route_on hall trip) refl
         where
-          fits : length (take n words) ≡ n
-          fits = length-take-le n words (route_words n needs)
-
-          zeroed : new ++ drop n words ≡ over (replicate (words_needed (site_of file)) 0) words
-          zeroed =
-              ap (λ (zs : List ℕ). zs ++ drop n words) (clears ∙ ap (λ (k : ℕ). replicate k 0) fits)
-              ∙ ap (λ (k : ℕ). replicate n 0 ++ drop k words) (sym (length-replicate {A = ℕ} n 0))
-              ∙ ap (λ (k : ℕ). over (replicate k 0) words) (needed n needs)
-
           -- of the file and the board that were lent
           lent_route : (p : Math.Option Route) → route_on hall trip ≡ p → find_route (site_of file) (free (site_of file) board) (node start tick) goal dwell ≡ p
           lent_route p q = rw (← made.0, ← made.1) q
@@ -122,12 +151,16 @@ module _ (file board out words : List ℕ) (tug start tick goal dwell : ℕ) whe
           lent_light : light ≡ granted_light (site_of file) (bytes_view (site_of file) board) tug (node start tick) goal dwell
           lent_light = rw (← made.0, ← made.1) refl
 
-          by_route : (p : Math.Option Route) → route_on hall trip ≡ p → Leaves is result left (new ++ drop n words)
+          by_route : (p : Math.Option Route) → route_on hall trip ≡ p → Leaves is (ok_or r NoPlan) left zeroed
           by_route none q =
-              rw (routes.none_meant file lent tug (node start tick) goal dwell first (checked 0 says) (lent_route none q), turned, finds, q)
-              (record { number = refl; values = refl; out_after = writes ∙ ap (λ (x : Math.Option Route). out_of x light out) q; work_after = zeroed })
+              rw (routes.none_meant file lent tug (node start tick) goal dwell first (checked 0 says) (lent_route none q), finds, q)
+              (record { number = refl; values = refl; out_after = writes ∙ ap (λ (x : Math.Option Route). out_of x light out) q; work_after = refl })
           by_route (some r) q =
               let same : is ≡ granted_done (site_of file) lent light =
               rw lent_light (routes.found_meant file lent tug (node start tick) goal dwell first (checked 0 says) r (lent_route (some r) q)) in
-              rw (same, turned, finds, q)
-              (record { number = refl; values = refl; out_after = writes ∙ ap (λ (x : Math.Option Route). out_of x light out) q; work_after = zeroed })
+              rw (same, finds, q)
+              (record { number = refl; values = refl; out_after = writes ∙ ap (λ (x : Math.Option Route). out_of x light out) q; work_after = refl })
+
+      -- the words, where the first k are zero and no other has changed
+      pub route_cleared : (n : ℕ) → Needs n → (k : ℕ) → k ≡ n → (new : List ℕ) → new ≡ over (replicate k 0) words → new ≡ zeroed
+      route_cleared n needs k all new clears = clears ∙ ap (λ (m : ℕ). over (replicate m 0) words) (all ∙ needed n needs)

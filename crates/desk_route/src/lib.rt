@@ -1,13 +1,21 @@
 // The public call that grants a light. It makes the checks 1 to 7, then its own up to 14, which only look, and then searches.
 #![tactic(auto)]
 
-ghost use Rattle.std.specs.Prelude.{◌≡◌};
-ghost use Rattle.meaning.specs.Calls.{listed, route, meant, lends};
+ghost use Rattle.std.specs.Prelude.{◌≡◌, ◌≤◌, length, replicate};
+ghost use Rattle.meaning.specs.Calls.{listed, route, meant, lends, over};
 ghost use Rattle.meaning.specs.Plan.{node};
 ghost use Rattle.answers.specs.Answers.{number_of, granted_values};
 
 use answers::{Granted, Refusal};
 use site::Trip;
+
+// Sets the first `needed` words to 0.
+fn zero_words(work: &mut [u32], needed: usize)
+    requires { needed ≤ length work.old }
+    ensures { work.new ≡ over (replicate needed 0) work.old }
+{
+    work[..needed].fill(0);
+}
 
 // Writes the light of the traced plan with the least arrival from which the tug can unload, and leaves the working words that a
 // search needs zero.
@@ -39,6 +47,6 @@ pub fn route(
     };
     checks_route::check_route(&hall, tug, trip, out.len(), work.len())?;
     let words = checks_route::words_needed(hall.sizes);
-    work[..words].fill(0);
+    zero_words(work, words);
     search::find(&hall, tug, trip, out).ok_or(Refusal::NoPlan)
 }

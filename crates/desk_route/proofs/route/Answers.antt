@@ -1,9 +1,7 @@
 -- `desk_route::route` meets its contract.
 -- Assumes nothing.
-use mathlib.Core.Path.{refl, sym}
-use borrow.Author.Rules.{rules}
-use lib.Seq.{length-take-le}
-use Rattle.desk_route.proofs.Laws.{route_first, route_later, route_asked, route_room, route_words, route_found}
+use Rattle.std.proofs.Common.{arith, refl, ◌∙◌, rules}
+use Rattle.desk_route.proofs.Laws.{route_first, route_later, route_asked, route_room, route_words, route_found, route_cleared}
 use Rattle.desk_route.proofs.route.Goals as goal
 
 pub returns-in_err-hall : goal.returns-in_err-hall
@@ -41,27 +39,23 @@ find-requires c =
       room = route_room _ _ _ _ _ _ _ _ _ c.in_ok-hall.hall made.hall made.number c.in_ok-check_route.ensures;
     }
 
-pub slice_bounds-fill-end : goal.slice_bounds-fill-end
-slice_bounds-fill-end c =
+pub zero_words-requires : goal.zero_words-requires
+zero_words-requires c =
     let made = c.in_ok-hall.ensures in
-    route_words _ _ _ _ _ _ _ _ _ c.in_ok-hall.hall made.hall made.number c.in_ok-check_route.ensures _ c.words_needed-words.ensures
-
-pub slice_bounds-fill-end-2 : goal.slice_bounds-fill-end-2
-slice_bounds-fill-end-2 c =
-    let made = c.in_ok-hall.ensures in
-    sym (length-take-le _ _ (route_words _ _ _ _ _ _ _ _ _ c.in_ok-hall.hall made.hall made.number c.in_ok-check_route.ensures _ c.words_needed-words.ensures))
+    omega (arith, route_words _ _ _ _ _ _ _ _ _ c.in_ok-hall.hall made.hall made.number c.in_ok-check_route.ensures _ c.words_needed-words.ensures)
 
 pub returns : goal.returns
 returns c =
     let made = c.in_ok-hall.ensures in
     let leaves =
-    route_found _ _ _ _ _ _ _ _ _ c.in_ok-hall.hall made.hall made.number c.in_ok-check_route.ensures _ _ c.ok_or.ensures.value
-    c.find.ensures.value _ c.find.ensures.out_after _ c.words_needed-words.ensures _ (c.fill.ensures.after (λ y same. search rules)) in
+    route_found _ _ _ _ _ _ _ _ _ c.in_ok-hall.hall made.hall made.number c.in_ok-check_route.ensures
+    c.find.result c.find.ensures.value _ c.find.ensures.out_after in
     record {
-      number = leaves.number;
-      values = leaves.values;
+      number = (search rules) ∙ leaves.number;
+      values = (search rules) ∙ leaves.values;
       out_after = leaves.out_after;
-      work_after = leaves.work_after;
+      work_after = route_cleared _ _ _ _ _ _ _ _ _ c.in_ok-hall.hall made.hall made.number c.in_ok-check_route.ensures _ c.words_needed-words.ensures
+          _ (omega arith) _ c.zero_words.ensures ∙ leaves.work_after;
       file_unchanged = refl;
       board_unchanged = refl;
     }
