@@ -1,6 +1,6 @@
 -- `desk_light::audit` meets its contract.
 -- Assumes nothing.
-use mathlib.Core.Path.{refl, sym, ◌∙◌}
+use Rattle.std.proofs.Common.{refl, sym, ◌∙◌, rules}
 use Rattle.meaning.specs.Calls.{listed, audit, on_board}
 use Rattle.meaning.proofs.CallLaws.{meant_number}
 use Rattle.checks.proofs.Laws.{passed_on, refused_first, later_in}
@@ -19,7 +19,7 @@ returns-in_err-hall c =
 
 pub returns : goal.returns
 returns c = record {
-  number = c.check_light.ensures ∙ sym (later_in _ (on_board _) (listed (audit _)) c.in_ok-hall.hall c.in_ok-hall.ensures.hall c.in_ok-hall.ensures.number) ∙ sym (meant_number _ (on_board _) (listed (audit _)));
+  number = (search rules) ∙ sym (later_in _ (on_board _) (listed (audit _)) c.in_ok-hall.hall c.in_ok-hall.ensures.hall c.in_ok-hall.ensures.number) ∙ sym (meant_number _ (on_board _) (listed (audit _)));
   file_unchanged = refl;
   board_unchanged = refl;
   light_unchanged = refl;
