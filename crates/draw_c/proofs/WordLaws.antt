@@ -19,6 +19,14 @@ use Rattle.draw.proofs.AnswerLaws.{draw_known}
 use Rattle.draw_c.specs.declared.DrawnWord.{DrawnWord}
 use Rattle.draw_c.specs.Words.{picture_word, drawn_word, drawn_by, drawn_in}
 
+-- whatever the word, its number is the one that is read
+pub number_read : (r : DrawnWord) → number_in (drawn_in r) ≡ word_number r.word
+number_read r = by (word_number r.word)
+  where
+    by : (n : ℕ) → number_in (drawn_by n r) ≡ n
+    by zero = refl
+    by (suc n) = refl
+
 picture_back : (p : Picture) → drawn_in (picture_word p) ≡ Ok p
 picture_back OffFloor = refl
 picture_back (Standing p) = refl
@@ -28,14 +36,6 @@ refused_back : (n : ℕ) → suc n ≤ 20 → drawn_in (drawn_word (Err (suc n))
 refused_back n most =
     let small : suc n % 256 ≡ suc n = omega arith in
     ap (λ (m : ℕ). drawn_by m (drawn_word (Err (suc n)))) small
-
--- whatever the word, its number is the one that is read
-pub number_read : (r : DrawnWord) → number_in (drawn_in r) ≡ word_number r.word
-number_read r = by (word_number r.word)
-  where
-    by : (n : ℕ) → number_in (drawn_by n r) ≡ n
-    by zero = refl
-    by (suc n) = refl
 
 pub drawn_back : (file light : List ℕ) (i k : ℕ) → drawn_in (drawn_word (drawn_of (draw_meant file light i k))) ≡ drawn_of (draw_meant file light i k)
 unfolding draw_meant answer
