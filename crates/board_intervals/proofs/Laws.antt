@@ -65,7 +65,7 @@ module _ (p : ℕ → Bool) where
       (λ f. let same : run_end p t (suc n) ≡ run_end p (suc t) n = simp f refl in none_inside n (suc t) f u (omega arith) (omega arith))
       (λ f. let same : run_end p t (suc n) ≡ t = simp f refl in absurd (omega arith)))
 
-  -- and that one is not free, but for the horizon
+  -- and that one is not free, unless the run ends at the horizon
   end_held : (n t u : ℕ) → u ≡ suc (run_end p t n) → u ≤ t + n → p u ≡ false
   unfolding run_end
   end_held zero t u e le = absurd (omega arith)

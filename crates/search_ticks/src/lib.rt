@@ -63,7 +63,8 @@ pub fn window_union(l: &[u64], s: usize, block: usize) -> u64
 }
 
 // Sets in the block of row s what waits reach, where row c of f has the free ticks of the block and the one before it.
-// Answers the bits that were new, of all words together, as `push` does: a word and no bool, since callers note such words by `|`.
+// Answers the bits that were new, of all words together, as `push` does. A word and no bool: still to do,
+// together with their callers.
 pub fn fill(l: &mut [u64], f: &[u64], s: usize, c: usize, block: usize) -> u64
     requires row_words_in_bounds { (s * row_words + row_words ≤ length l.old) × (block < blocks) }
     requires window_words_in_bounds { c * window_words + window_words ≤ length f.now }
