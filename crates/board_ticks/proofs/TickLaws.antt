@@ -3,7 +3,7 @@
 use Prim.Native.Nat.{ℕ, zero, suc, ◌+◌, ◌*◌, ◌-◌, ◌<◌, ◌≤◌, min}
 use native.Mathlib.Omega.{arith}
 use mathlib.Core.Path.{◌≡◌, refl, sym, ap, ap₂, ◌∙◌, fun_ext}
-use mathlib.Core.Bool.{Bool, true, false, not, ◌&&◌, true≢false}
+use mathlib.Core.Bool.{Bool, true, false, not, ◌&&◌, true≢false, and-true}
 use mathlib.Core.List.{List}
 use borrow.Author.Tests.{ltb-true, ltb-false, eqb-true, eq-eqb, not-true}
 use lib.Dec.{ltb, eqb}
@@ -46,6 +46,10 @@ module _ (p : ℕ → Bool) (t last : ℕ) where
 
   pub free_end : last < t → all_from p t (suc last - t) ≡ true
   free_end h = ap (all_from p t) (done t last h)
+
+-- a run of one tick
+pub one_tick : (good : ℕ → Bool) (t : ℕ) → from_to good t t ≡ good t
+one_tick good t = let one : suc t - t ≡ 1 = omega arith in ap (all_from good t) one ∙ and-true (good t)
 
 -- a test of the bytes that begin at a place, from the tick first to the tick last
 abbrev pub runs : (ℕ → Bool) → List ℕ → ℕ → ℕ → ℕ → Bool

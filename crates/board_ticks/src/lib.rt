@@ -23,18 +23,60 @@ fn later(t: usize, margin: usize, horizon: usize) -> usize
 
 // ---- the bytes of a run of ticks
 
-// Is each byte 0?
-fn none_held(bytes: &[u8]) -> bool
+// So many bytes of a run are looked at together, with no early exit, so that the compiler takes them at once.
+const PIECE: usize = 16;
+
+// Is each of a few bytes 0? It stops at the first that is not.
+fn few_free(bytes: &[u8]) -> bool
     ensures { result ≡ list_all (λ b. eqb b 0) bytes.now }
 {
     bytes.iter().all(|b| board_sorts::is_free_byte(*b))
 }
 
-// Is no byte a tug's?
+// Is each byte of a piece 0?
+fn piece_free(bytes: &[u8]) -> bool
+    ensures { result ≡ list_all (λ b. eqb b 0) bytes.now }
+{
+    bytes
+        .iter()
+        .fold(true, |all, b| all & board_sorts::is_free_byte(*b))
+}
+
+// Is each byte of a long run 0? Never inlined, so that what asks for short runs stays small.
+#[inline(never)]
+fn long_free(bytes: &[u8]) -> bool
+    ensures { result ≡ list_all (λ b. eqb b 0) bytes.now }
+{
+    let (pieces, rest) = bytes.as_chunks::<PIECE>();
+    pieces.iter().all(|piece| piece_free(piece)) & piece_free(rest)
+}
+
+// Is each byte of a run 0? Less than a piece is looked at byte by byte.
+fn none_held(bytes: &[u8]) -> bool
+    ensures { result ≡ list_all (λ b. eqb b 0) bytes.now }
+{
+    if bytes.len() < PIECE {
+        few_free(bytes)
+    } else {
+        long_free(bytes)
+    }
+}
+
+// Is no byte of a piece a tug's?
+fn piece_tugless(bytes: &[u8]) -> bool
+    ensures { result ≡ list_all (λ b. not (is_tug b)) bytes.now }
+{
+    bytes
+        .iter()
+        .fold(true, |all, b| all & !board_sorts::is_tug(*b))
+}
+
+// Is no byte of a run a tug's?
 fn no_tug(bytes: &[u8]) -> bool
     ensures { result ≡ list_all (λ b. not (is_tug b)) bytes.now }
 {
-    bytes.iter().all(|b| !board_sorts::is_tug(*b))
+    let (pieces, rest) = bytes.as_chunks::<PIECE>();
+    pieces.iter().all(|piece| piece_tugless(piece)) & piece_tugless(rest)
 }
 
 // ---- free, and what a closure may take
@@ -62,7 +104,11 @@ impl CellTicks<'_> {
         ensures value { result ≡ frees self.now t }
         ensures every_site { (site : Site) → site.horizon ≡ self.now.horizon → site.margin ≡ self.now.margin → self.now.cell < site.cells → result ≡ free site self.now.board.now self.now.cell t }
     {
-        self.run_free(t, t)
+        let row = board::HEADER + self.cell * (self.horizon + 1);
+        let low = t.saturating_sub(self.margin);
+        let high = later(t, self.margin, self.horizon);
+        // Not by `run_free`: an interval call and the ends of the search ask for tick after tick, and this stops at the first byte held.
+        few_free(&self.board[row + low..row + high + 1])
     }
 
     // May a closure take the cell from the tick first to the tick last, both included? Each of these bytes must be 0, and none from the
