@@ -1,13 +1,10 @@
 -- `board_ticks::piece_tugless` meets its contract.
 -- Assumes nothing.
-use Rattle.std.proofs.Common.{◌≡◌, refl, subst, rules}
+use Rattle.std.proofs.Common.{ap, rules, ◌∙◌}
 use Rattle.std.specs.List.{list_all}
-use Rattle.std.proofs.lemmas.Fn.{fold_over, slice_gives, fronts}
-use Rattle.board_ticks.proofs.ByteLaws.{list_all_push}
+use Rattle.board_ticks.proofs.ByteLaws.{all_by_fold}
 use Rattle.board_ticks.proofs.TickLaws.{tugless}
 use Rattle.board_ticks.proofs.piece_tugless.Goals as goal
 
 pub returns : goal.returns
-returns c = subst (λ bytes. c.fold.result ≡ list_all tugless bytes) c.iter.ensures.rest
-    (fold_over fronts (λ b. b.now) _ (λ bytes all. all ≡ list_all tugless bytes) _ (λ bytes a x b f' j k. let more = list_all_push tugless bytes x.now in search rules)
-    _ _ _ _ (slice_gives c.iter.result) refl c.fold.ensures.ran)
+returns c = all_by_fold tugless _ _ (λ a x b k call. search rules) _ _ c.fold.ensures.ran ∙ ap (list_all tugless) c.iter.ensures.rest
