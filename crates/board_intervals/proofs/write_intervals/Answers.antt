@@ -10,7 +10,7 @@ use Rattle.meaning.specs.Intervals.{begins, intervals, numbers_of}
 use Rattle.meaning.specs.Calls.{over}
 use Rattle.board_ticks.specs.Ticks.{frees}
 use Rattle.board_ticks.proofs.TickLaws.{free_on_each}
-use Rattle.board_intervals.proofs.Laws.{told_start, told_on, told_run, begins_free, begins_told, turn_start, turn_skips, turn_begins, turn_count, turn_out, few, room}
+use Rattle.board_intervals.proofs.Laws.{told_start, told_on, told_run, begins_untold, begins_told, turn_start, turn_skips, turn_begins, turn_count, turn_out, few, room}
 use Rattle.board_intervals.proofs.write_intervals.Goals.{then-next-t+then-is_free, else-next-t, else-next-t-via-then-next-t+else-is_free, else-next-t-via-else-next-t}
 use Rattle.board_intervals.proofs.write_intervals.Goals as goal
 
@@ -23,7 +23,7 @@ put_interval-requires-clause-k_in_bounds c =
     let inv = c.loop-t.invariant in
     let le : c.loop-t.t ≤ c.args.ticks.now.horizon = omega arith in
     let free = sym c.is_free.ensures.value ∙ c.if-is_free.true in
-    room f _ _ _ _ _ inv.0 le (sym (begins_free f _ _ _ inv.1 le c.if-next-t.true) ∙ free) c.requires
+    room f _ _ _ _ _ inv.0 le (sym (begins_untold f _ _ _ inv.1 le c.if-next-t.true) ∙ free) c.requires
 
 pub overflow_add-k : goal.overflow_add-k
 overflow_add-k c =
@@ -38,7 +38,7 @@ loop-t-preserved c =
     elim c.if-next-t.branch [
       | then-next-t+then-is_free w ↦
           let free = sym w.is_free.ensures.value ∙ w.if-is_free.true in
-          let here = sym (begins_free f _ _ _ inv.1 le w.if-next-t.true) ∙ free in (
+          let here = sym (begins_untold f _ _ _ inv.1 le w.if-next-t.true) ∙ free in (
             rw (w.k-is, w.out-is ∙ w.put_interval.ensures) (turn_begins f _ _ _ _ _ inv.0 _ le here w.run_end-last.ensures.value),
             rw w.next-is (told_run f _ _ _ inv.1 le free _ w.run_end-last.ensures.value),
           )
@@ -46,7 +46,7 @@ loop-t-preserved c =
           let none : (begins f c.loop-t.t ≡ false) × (c.loop-t.next ≤ c.loop-t.t → f c.loop-t.t ≡ false) = elim w.else-next-t.branch [
             | else-next-t-via-then-next-t+else-is_free v ↦
                 let held = sym v.is_free.ensures.value ∙ v.if-is_free.false in
-                (sym (begins_free f _ _ _ inv.1 le v.if-next-t.true) ∙ held, λ first. held)
+                (sym (begins_untold f _ _ _ inv.1 le v.if-next-t.true) ∙ held, λ first. held)
             | else-next-t-via-else-next-t v ↦
                 let later : c.loop-t.t < c.loop-t.next = omega (arith, v.if-next-t.false) in
                 (begins_told f _ _ _ inv.1 le later, λ first. absurd (omega arith))
