@@ -24,13 +24,14 @@ module _ (p : ℕ → Bool) where
   unfolding begins
   none_after t e = simp e (and-false (p (suc t)))
 
-  -- behind none that is free, one begins at a free tick
-  free_begins : (t : ℕ) → free_before p t ≡ false → p t ≡ begins p t
+  -- where no free tick is before it, one begins at a tick if that is free
+  begins_if_free : (t : ℕ) → free_before p t ≡ false → p t ≡ begins p t
   unfolding begins
-  free_begins t e = sym (simp e (and-true (p t)))
+  begins_if_free t e = sym (simp e (and-true (p t)))
 
+  -- the same, for other crates, by the tick before: at the first tick, behind a free one, and behind one that is not
   pub begins_first : (t : ℕ) → t ≡ 0 → p t ≡ begins p t
-  begins_first t e = free_begins t (ap (free_before p) e)
+  begins_first t e = begins_if_free t (ap (free_before p) e)
 
   pub begins_not : (t : ℕ) → (t ≡ 0 → ⊥) → p (t - 1) ≡ true → begins p t ≡ false
   begins_not zero pos e = absurd (pos refl)
@@ -38,7 +39,7 @@ module _ (p : ℕ → Bool) where
 
   pub begins_free : (t : ℕ) → (t ≡ 0 → ⊥) → p (t - 1) ≡ false → p t ≡ begins p t
   begins_free zero pos e = absurd (pos refl)
-  begins_free (suc t) pos e = free_begins (suc t) (ap p (omega arith) ∙ e)
+  begins_free (suc t) pos e = begins_if_free (suc t) (ap p (omega arith) ∙ e)
 
   -- ---- where the run of free ticks ends
 
@@ -106,7 +107,7 @@ module _ (p : ℕ → Bool) where
   module _ (horizon t next : ℕ) (now : Told horizon t next) (le : t ≤ horizon) where
     -- at a tick of which nothing is told an interval begins if it is free
     pub begins_untold : next ≤ t → p t ≡ begins p t
-    begins_untold first = free_begins t (now.before first)
+    begins_untold first = begins_if_free t (now.before first)
 
     -- at another none begins
     pub begins_told : t < next → begins p t ≡ false
